@@ -1,5 +1,5 @@
 -- What a worker's drive leads to, and how it ends.
-use Rattle.std.proofs.Common.{◌≡◌, ℕ, ◌≤◌, ◌-◌, ◌==◌, Bool, false, not, refl, sym, subst, ap, ◌∙◌, arith}
+use Rattle.std.proofs.Common.{◌≡◌, Option, ℕ, ◌≤◌, ◌-◌, ◌==◌, Bool, false, not, refl, sym, subst, ap, ◌∙◌, arith}
 use Rattle.std.proofs.Math.Nat.{le_antisymm, le_refl, le_trans, sub-le}
 use Rattle.rayon_machine_places.specs.declared.place.Party.{Party}
 use Rattle.rayon_machine_places.specs.declared.place.Party.TheVariants.{Worker}
@@ -20,7 +20,7 @@ use Rattle.rayon_atomics.specs.declared.views.Teller.{Teller}
 use Rattle.rayon_machine_places.specs.declared.place.Count.TheVariants.{OfPool, OfScope, OfCast}
 use Rattle.rayon_performers.specs.Hands.{Hands, Does, Needs, Sees, Told, after, is_yes}
 use Rattle.rayon_performers.specs.Keeps.{at_stays, does_at, ended, going}
-use Rattle.rayon_performers.specs.Marks.{GivesUnit, Marks}
+use Rattle.rayon_performers.specs.Marks.{GivesUnit, Marks, Tally}
 use Rattle.rayon_performers.specs.Seats.{Resting}
 use Rattle.rayon_performers.specs.Stands.{Anyhow, At, Ended, Hand, Last, Next, hand}
 use Rattle.rayon_performers.specs.Waits.{SameSeat}
@@ -30,6 +30,12 @@ module _ {X G O F : Type 0} where
   -- no act changes whose bench it is
   after_seat : (a : Act) (x : Seen) (s t : Hands X G O F) → SameSeat s (after a x t s)
   after_seat (acts.Probe l) x s t = (refl, refl)
+  after_seat (acts.Raise (OfPool p) n) x s t = (refl, refl)
+  after_seat (acts.Raise (OfScope c o) n) x s t = (refl, refl)
+  after_seat (acts.Raise (OfCast c o) n) x s t = (refl, refl)
+  after_seat (acts.Lower (OfPool p) b) x s t = (refl, refl)
+  after_seat (acts.Lower (OfScope c o) b) x s t = (refl, refl)
+  after_seat (acts.Lower (OfCast c o) b) x s t = (refl, refl)
   after_seat _ x s t = (refl, refl)
 
   pub does_stays : (a : Act) (x : Seen) (s t : Hands X G O F) → Does a x s t → SameSeat s t
@@ -46,7 +52,7 @@ module _ {X G O F : Type 0} where
 
   -- with the same at hand only those seats and the trace are others
   abbrev pub whole : Hand X G O F → Marks → Log → Hands X G O F
-  whole s k l = record { index = s.index; shape = s.shape; deques = s.deques; own = s.own; inlet = s.inlet; thief = s.thief; task = s.task; call = s.call; reply = s.reply; done = s.done; guards = s.guards; probed = s.probed; holds = s.holds; marks = k; chair = s.chair; trace = l }
+  whole s k l = record { index = s.index; shape = s.shape; deques = s.deques; own = s.own; inlet = s.inlet; thief = s.thief; task = s.task; call = s.call; reply = s.reply; done = s.done; outcome = s.outcome; guards = s.guards; probed = s.probed; holds = s.holds; tally = s.tally; marks = k; chair = s.chair; trace = l }
 
   pub told_by : (s u : Hands X G O F) → hand u ≡ hand s → Told s u
   told_by s u e = ap (λ (z : Hand X G O F). whole z u.marks u.trace) e
@@ -56,17 +62,17 @@ module _ {X G O F : Type 0} (E : Move → Hand X G O F → Type 0) where
   pub drive_ends : (h : PoolShape) (i : ℕ) (m : Move) (s u : Hands X G O F) (n : Move) → At E (Worker 0 i) s m → So h i m s n u → goes n ≡ false → E n (hand u) × Resting u.chair × Ended (hand u) n
   drive_ends h i m s u n a d g = ended E (Worker 0 i) u n g (driven_keeps (λ (b : Hands X G O F) x y c. Does x y b c) (λ (b : Hands X G O F). b.trace) (λ (v : Hands X G O F) k. At E (Worker 0 i) v k) h (Worker 0 i) (λ v k y e b. at_stays E (Worker 0 i) v k y e b) (λ v w y x r b f. does_at E v w h 0 i y x (going E (Worker 0 i) v (Stay y) (ap not r) b) f) m s u n a d)
 
-  -- an end of a drive follows, in whose hand as many units are
-  last_next : (s : Hand X G O F) (n p i : ℕ) (t : Then) → Last s (finish (Worker p i) t) → E (finish (Worker p i) t) (record s { holds = n }) → Next E (record s { holds = n }) (finish (Worker p i) t)
-  last_next s n p i (BeginFound g k) l e = (e, l)
-  last_next s n p i (LeaveWait Termination) l e = (e, l)
-  last_next s n p i (LeaveWait (Answer o f)) l e = absurd l
-  last_next s n p i (Await o) l e = absurd l
-  last_next s n p i (Gathers o) l e = absurd l
-  last_next s n p i _ l e = (e, l)
+  -- an end of a drive follows, in whose hand as many units are, and this seat of a scope's count
+  last_next : (s : Hand X G O F) (n : ℕ) (y : Option Tally) (p i : ℕ) (t : Then) → Last s (finish (Worker p i) t) → E (finish (Worker p i) t) (record s { holds = n; tally = y }) → Next E (record s { holds = n; tally = y }) (finish (Worker p i) t)
+  last_next s n y p i (BeginFound g k) l e = (e, l)
+  last_next s n y p i (LeaveWait Termination) l e = (e, l)
+  last_next s n y p i (LeaveWait (Answer o f)) l e = absurd l
+  last_next s n y p i (Await o) l e = absurd l
+  last_next s n y p i (Gathers o) l e = absurd l
+  last_next s n y p i _ l e = (e, l)
 
-  pub follows : (s u : Hands X G O F) (n p i : ℕ) (t : Then) → hand u ≡ record (hand s) { holds = n } → Last (hand s) (finish (Worker p i) t) → Resting s.chair → E (finish (Worker p i) t) (hand u) → Next E (hand u) (finish (Worker p i) t) × Resting u.chair
-  follows s u n p i t e l r f = (subst (λ (z : Hand X G O F). Next E z (finish (Worker p i) t)) (sym e) (last_next (hand s) n p i t l (subst (λ (z : Hand X G O F). E (finish (Worker p i) t) z) e f)), subst (λ (z : Hand X G O F). Resting z.chair) (sym e) r)
+  pub follows : (s u : Hands X G O F) (n : ℕ) (y : Option Tally) (p i : ℕ) (t : Then) → hand u ≡ record (hand s) { holds = n; tally = y } → Last (hand s) (finish (Worker p i) t) → Resting s.chair → E (finish (Worker p i) t) (hand u) → Next E (hand u) (finish (Worker p i) t) × Resting u.chair
+  follows s u n y p i t e l r f = (subst (λ (z : Hand X G O F). Next E z (finish (Worker p i) t)) (sym e) (last_next (hand s) n y p i t l (subst (λ (z : Hand X G O F). E (finish (Worker p i) t) z) e f)), subst (λ (z : Hand X G O F). Resting z.chair) (sym e) r)
 
 -- no unit of the pool's count is given back where as many stand for the worker's calls afterwards
 gives_none : (n : ℕ) (b : Bool) (v w : Teller) → n - 1 ≡ n → GivesUnit (n == 1) b v w → w ≡ v

@@ -1,7 +1,6 @@
 -- A job goes into a FIFO list, and its token onto the own deque, act by act.
 use Rattle.std.proofs.Common.{◌≡◌, Bool, true, false, ℕ, None, refl, subst}
 use Rattle.rayon_machine_places.specs.declared.act.Act.TheVariants as acts
-use Rattle.rayon_machine_places.specs.declared.act.Seen.{Seen}
 use Rattle.rayon_machine_places.specs.declared.act.Seen.TheVariants.{Done, Refused, Yes, No, Task}
 use Rattle.rayon_machine_places.specs.declared.place.Count.TheVariants.{OfPool}
 use Rattle.rayon_machine_places.specs.declared.place.Move.{Move}

@@ -1,7 +1,6 @@
 -- The looks that run nothing, act by act: what was taken so far, and where the table leads.
 use Rattle.std.proofs.Common.{◌≡◌, inl, inr, ℕ, ◌-◌, ◌==◌, ◌≤◌, ◌++◌, [], ◌∷◌, List, ◌∙◌, Bool, true, false, if◌then◌else◌, Option, None, Some, MatchOption, slice_get, length, length-append, refl, sym, subst, ap, arith}
 use Rattle.rayon_machine_places.specs.declared.place.Taken.{Taken}
-use Rattle.rayon_machine_places.specs.declared.place.Taken.TheVariants.{Plain, Token}
 use Rattle.rayon_machine_places.specs.declared.place.Party.{Party}
 use Rattle.rayon_machine_places.specs.declared.place.Party.TheVariants.{Worker}
 use Rattle.rayon_machine_places.specs.declared.place.Place.{Place}

@@ -1,5 +1,5 @@
 -- An act on a latch is one step of the worker's own seat of it, and one entry of the trace.
-use Rattle.std.proofs.Common.{◌≡◌, ℕ, Bool, true, false, refl, sym, subst, ap}
+use Rattle.std.proofs.Common.{◌≡◌, Bool, true, false, refl, sym, subst, ap}
 use Rattle.rayon_machine_places.specs.declared.place.Latch.{Latch}
 use Rattle.rayon_machine_places.specs.declared.act.Act.TheVariants as acts
 use Rattle.rayon_machine_places.specs.declared.act.Seen.{Seen}

@@ -5,6 +5,7 @@ pub mod Finds
 pub mod Letters
 pub mod Offers
 pub mod Recounts
+pub mod Scopes
 pub mod Spawns
 pub mod Stretches
 pub mod Visits

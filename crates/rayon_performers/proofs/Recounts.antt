@@ -1,7 +1,6 @@
 -- An act on the terminate count, or one that sets a latch, is what was done with the seats, and one entry of the trace.
 use Rattle.std.proofs.Common.{◌≡◌, inl, inr, ℕ, ◌+◌, ◌-◌, ◌==◌, Bool, true, false, Option, Result, Ok, Err, MatchResult, refl, sym, subst, ap, ◌∙◌, arith}
 use Rattle.std.proofs.lemmas.Bool.{eqb-false, eqb-true}
-use Rattle.rayon_machine_places.specs.declared.place.Count.{Count}
 use Rattle.rayon_machine_places.specs.declared.place.Latch.{Latch}
 use Rattle.rayon_machine_places.specs.declared.place.Share.{Share}
 use Rattle.rayon_machine_places.specs.declared.act.Act.TheVariants as acts
@@ -26,13 +25,13 @@ module _ {X G O F : Type 0} (s t u : Hands X G O F) (f : u ≡ record t { trace 
       let on : u ≡ record s { holds = n; marks = record { set = s.marks.set; count = t.marks.count }; trace = u.trace } = subst (λ (z : Hands X G O F). u ≡ record z { trace = u.trace }) e f in
       subst (λ (q : Teller). u ≡ record s { holds = n; marks = record { set = s.marks.set; count = q }; trace = u.trace }) count_stays on
 
-  pub raises : (k : Count) (j : ℕ) → t ≡ record s { holds = s.holds + 1; marks = record { set = s.marks.set; count = t.marks.count } } → TakesUnit (s.holds == 0) s.marks.count t.marks.count → Does (acts.Raise k j) Done s u
+  pub raises : (k : ℕ) (j : ℕ) → t ≡ record s { holds = s.holds + 1; marks = record { set = s.marks.set; count = t.marks.count } } → TakesUnit (s.holds == 0) s.marks.count t.marks.count → Does (acts.Raise (OfPool k) j) Done s u
   raises k j e w = (recounted (s.holds + 1) e, subst (λ (q : Teller). TakesUnit (s.holds == 0) s.marks.count q) count_stays w)
 
-  pub not_raises : (k : Count) (j : ℕ) → t ≡ record s { marks = record { set = s.marks.set; count = t.marks.count } } → MissesUnit (s.holds == 0) s.marks.count t.marks.count → Does (acts.Raise k j) Refused s u
+  pub not_raises : (k : ℕ) (j : ℕ) → t ≡ record s { marks = record { set = s.marks.set; count = t.marks.count } } → MissesUnit (s.holds == 0) s.marks.count t.marks.count → Does (acts.Raise (OfPool k) j) Refused s u
   not_raises k j e w = (recounted s.holds e, subst (λ (q : Teller). MissesUnit (s.holds == 0) s.marks.count q) count_stays w)
 
-  pub lowers : (k : Count) (j : Share) (b : Bool) → t ≡ record s { holds = s.holds - 1; marks = record { set = s.marks.set; count = t.marks.count } } → GivesUnit (s.holds == 1) b s.marks.count t.marks.count → Does (acts.Lower k j) (answer b) s u
+  pub lowers : (k : ℕ) (j : Share) (b : Bool) → t ≡ record s { holds = s.holds - 1; marks = record { set = s.marks.set; count = t.marks.count } } → GivesUnit (s.holds == 1) b s.marks.count t.marks.count → Does (acts.Lower (OfPool k) j) (answer b) s u
   lowers k j true e w = (recounted (s.holds - 1) e, subst (λ (q : Teller). GivesUnit (s.holds == 1) true s.marks.count q) count_stays w)
   lowers k j false e w = (recounted (s.holds - 1) e, subst (λ (q : Teller). GivesUnit (s.holds == 1) false s.marks.count q) count_stays w)
 

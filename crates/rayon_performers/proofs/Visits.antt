@@ -5,12 +5,12 @@ use Rattle.rayon_machine_places.specs.declared.place.Plan.{Plan}
 use Rattle.rayon_machine_places.specs.declared.place.Place.{Place}
 use Rattle.rayon_machine_places.specs.declared.place.Place.TheVariants as at
 use Rattle.rayon_machine_places.specs.declared.place.Move.{Move}
-use Rattle.rayon_machine_places.specs.declared.place.Move.TheVariants.{Stay, Enter, StartRun, Back, HandBack, HandIn, Discard, Mark, HandAllBack}
+use Rattle.rayon_machine_places.specs.declared.place.Move.TheVariants.{Stay, Back, HandBack}
 use Rattle.rayon_machine_places.specs.declared.act.Seen.{Seen}
 use Rattle.rayon_machine_places.specs.declared.act.Seen.TheVariants.{Done}
 use Rattle.rayon_machine_places.specs.declared.shape.PoolShape.{PoolShape}
 use Rattle.rayon_machine_places.specs.Places.{act_of, next_of, plan_job, is_rest}
-use Rattle.rayon_drive.specs.Paths.{goes, act_at, onward, Driven}
+use Rattle.rayon_drive.specs.Paths.{Driven}
 use Rattle.rayon_drive.specs.Moves.{stays_at}
 use Rattle.rayon_drive.proofs.Paths.{driven_keeps}
 use Rattle.rayon_queues.specs.Deques.{Visitor}

@@ -10,7 +10,7 @@ use Rattle.rayon_machine_places.specs.declared.shape.PoolShape.{PoolShape}
 use Rattle.rayon_drive.specs.declared.trace.Log.{Log}
 use Rattle.rayon_drive.specs.Paths.{Traced}
 use Rattle.rayon_tasks.specs.Tasks.{NoJob, TaskOf}
-use Rattle.rayon_tasks.specs.Tickets.{TicketOf}
+use Rattle.rayon_tasks.specs.Tickets.{TicketOf, unscoped}
 use Rattle.rayon_performers.specs.Hands.{Hands}
 use Rattle.rayon_performers.specs.Paths.{WorkerGoes}
 use Rattle.rayon_performers.specs.Spawns.{with_units}
@@ -25,7 +25,7 @@ token_with u = record { work = NoJob; injected = false; ticket = u }
 
 -- the token of this name, which stands for a job of the FIFO list of this party
 abbrev pub token_task : {X : Type 0} → Party → ℕ → TaskOf X
-token_task q k = token_with (record { owner = q; number = k; detached = true })
+token_task q k = token_with (unscoped q k true)
 
 -- the acts of a spawn in order of the job and the token of these names, from its Raise to its end
 abbrev pub Fed : PoolShape → Party → ℕ → ℕ → Log → Log → Type 0

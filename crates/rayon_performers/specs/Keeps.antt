@@ -93,9 +93,9 @@ module _ {X G O F : Type 0} (E : Move → Hand X G O F → Type 0) where
   after_set_at s h p i x Terminate a = settle_at s h p i x.pool (x.worker + 1) x.then a
   after_set_at s h p i x (OfCall c) a = next_at s p i (finish (Worker p i) x.then) a
 
-  pub told_at : (s : Hands X G O F) (p i c : ℕ) (o : Party) → HasTicket s.reply (Some c) → Next E (hand s) (finish (Worker p i) Resume) × Resting s.chair → At E (Worker p i) s (Stay (set_call c o Resume))
-  told_at s p i c (Worker r j) k a = (k, a)
-  told_at s p i c (Caller n) k a = (k, a)
+  pub told_at : (s : Hands X G O F) (p i c : ℕ) (o : Party) (t : Then) → HasTicket s.reply (Some c) → Next E (hand s) (finish (Worker p i) t) × Resting s.chair → At E (Worker p i) s (Stay (set_call c o t))
+  told_at s p i c (Worker r j) t k a = (k, a)
+  told_at s p i c (Caller n) t k a = (k, a)
 
   -- a wait is left
   left_next : (s : Hand X G O F) (g : Target) → HasTicket s.call (call_to g) → Left E g s.holds → SawSet s (latch_of g) → Next E s (Stay (after_wait g))
@@ -215,7 +215,7 @@ module _ {X G O F : Type 0} (E : Move → Hand X G O F → Type 0) where
   at_on s t h p i (at.TakeResult o f) _ a d = (tt, ((a.1.1 _ refl, tt), a.1.2))
   at_on s t h p i (at.LowerCount (OfPool m) b n) Yes a d = settle_at (record s { holds = s.holds - 1; marks = record { set = s.marks.set; count = t.marks.count }; trace = t.trace }) h p i m 0 n a.1
   at_on s t h p i (at.LowerCount (OfPool m) b n) _ a d = next_at (record s { holds = s.holds - 1; marks = record { set = s.marks.set; count = t.marks.count }; trace = t.trace }) p i (finish (Worker p i) n) a.1
-  at_on s t h p i (at.StoreResult c o e) _ a d = told_at (record s { done = None; trace = t.trace }) p i c o a.0.0 ((a.1.0, tt), a.1.1)
+  at_on s t h p i (at.StoreResult c o e) _ a d = told_at (record s { done = None; trace = t.trace }) p i c o Resume a.0.0 ((a.1.0, tt), a.1.1)
   at_on s t h p i (at.SetLatch k) Yes a d = (tt, a.1)
   at_on s t h p i (at.SetLatch k) _ a d = after_set_at (record s { marks = record { set = t.marks.set; count = s.marks.count }; trace = t.trace }) h p i k k.latch a.1
   at_on s t h p i (at.LockToSettle k) _ a d = (tt, subst (λ (c : Option Watch). Next E (record (hand s) { chair = c }) (finish (Worker p i) k.then) × Resting c) (held Rests s.chair t.chair a.1.1 d) a.1)

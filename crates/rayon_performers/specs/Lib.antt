@@ -7,6 +7,7 @@ pub mod Keeps
 pub mod Marks
 pub mod Paths
 pub mod Pools
+pub mod Scopes
 pub mod Seating
 pub mod Seats
 pub mod Sights

@@ -17,8 +17,9 @@ use Rattle.rayon_machine_places.specs.declared.shape.PoolShape.{PoolShape}
 use Rattle.rayon_drive.specs.declared.trace.Log.{Log}
 use Rattle.rayon_drive.specs.Paths.{Traced}
 use Rattle.rayon_tasks.specs.Tasks.{OneJob, TaskOf}
+use Rattle.rayon_tasks.specs.Tickets.{unscoped}
 use Rattle.rayon_performers.specs.Hands.{Hands, HasResult, HasTicket}
-use Rattle.rayon_performers.specs.Marks.{GivesUnit}
+use Rattle.rayon_performers.specs.Marks.{GivesUnit, IsScope, Tally, scope_in}
 use Rattle.rayon_performers.specs.Paths.{WorkerGoes}
 
 -- the acts of a spawn of the job of this name, from its Raise to its end
@@ -27,7 +28,7 @@ Spawned h q n v w = Traced h q (Stay (RaiseCount (Detach 0 n))) v w Back
 
 -- the task of a detached job of this name that this party spawned, from outside the pool or not
 abbrev pub detached_task : {X : Type 0} → X → Bool → Party → ℕ → TaskOf X
-detached_task j b q n = record { work = OneJob j; injected = b; ticket = record { owner = q; number = n; detached = true } }
+detached_task j b q n = record { work = OneJob j; injected = b; ticket = unscoped q n true }
 
 -- the place at which the end begins of a run that ended so, by what it sets going: the unit that came with the job is given
 -- back, or the ending is stored for the call that waits for it or in its scope's book. There is none where the call below
@@ -41,6 +42,12 @@ closing (PieceOf c o) t e = Some (StorePiece c o t e)
 closing (BodyOf c o) t e = None
 closing (WholeOf c o) t e = None
 closing (TokenOf i b) t e = None
+
+-- the seat by which the party stepped on a scope's count last, after the end of such a run: another after that of a scope's
+-- job alone
+abbrev pub tally_after : JobKind → Option Tally → Option Tally → Option Tally
+tally_after (Scoped c o) old new = new
+tally_after _ old new = old
 
 -- what the end of such a run leaves with the seat of the terminate count: a detached job's unit is given back, and no other
 abbrev pub ClosesUnit : JobKind → Teller → Teller → Type 0
@@ -62,11 +69,12 @@ module _ {X G O F : Type 0} where
   abbrev pub SpawnsNone : ℕ → Hands X G O F → Hands X G O F → Type 0
   SpawnsNone n s t = (t ≡ s) ⊎ WorkerGoes (Stay (RaiseCount (Detach 0 n))) (with_units 0 s) (with_units 0 t) (HandBack (Detach 0 n))
 
-  -- what the end of such a run asks: the ticket to answer and the result, where a call waits for the job. No worker runs a
-  -- job of the other kinds yet
+  -- what the end of such a run asks: the ticket to answer and the result, where a call or a scope waits for the job. No
+  -- worker runs a job of the other kinds yet
   abbrev pub CanClose : JobKind → Ending → Hands X G O F → Type 0
   CanClose (Detached p) e s = p ≡ 0
   CanClose (Stored c o) e s = HasTicket s.reply (Some c) × HasResult s.done (Some e)
+  CanClose (Scoped c o) e s = IsScope (scope_in s.reply) c × HasResult s.done (Some e)
   CanClose Direct e s = Unit {0}
   CanClose _ e s = ⊥
 
@@ -84,4 +92,5 @@ module _ {G O F : Type 0} where
   -- the result that is at hand after the end of such a run: none where it was stored
   abbrev pub done_after : JobKind → Option (Run G O F) → Option (Run G O F)
   done_after (Stored c o) r = None
+  done_after (Scoped c o) r = None
   done_after _ r = r

@@ -1,5 +1,5 @@
 -- What a worker has at hand at each place of the table to which a drive leads it, and where the drive ends.
-use Rattle.std.specs.Prelude.{◌≡◌, ◌-◌, ℕ, Bool, true, false, Option, None, Some, List}
+use Rattle.std.specs.Prelude.{◌≡◌, ◌-◌, ℕ, Bool, true, false, Option, None, Some, Result, List}
 use Rattle.rayon_machine_places.specs.declared.place.Count.TheVariants.{OfPool}
 use Rattle.rayon_machine_places.specs.declared.place.Party.{Party}
 use Rattle.rayon_machine_places.specs.declared.place.Party.TheVariants.{Worker, Caller}
@@ -24,6 +24,8 @@ use Rattle.rayon_queues.specs.Deques.{Deque, DequeId, Thief, Visitor}
 use Rattle.rayon_tasks.specs.Tasks.{TaskOf}
 use Rattle.rayon_tasks.specs.Tickets.{TicketOf}
 use Rattle.rayon_jobs.specs.Within.{Run}
+use Rattle.rayon_books.specs.declared.slot.NoOutputs.{NoOutputs}
+use Rattle.rayon_performers.specs.Marks.{Tally}
 use Rattle.rayon_performers.specs.Sights.{Guards, SeenSet}
 use Rattle.rayon_performers.specs.Seats.{Resting, Searching, Sleeping}
 use Rattle.rayon_performers.specs.Hands.{Hands, HasTask, HasTicket, Needs, call_latch}
@@ -40,9 +42,11 @@ pub record Hand (X G O F : Type 0) : Type 0 where
   pub call : Option TicketOf
   pub reply : Option TicketOf
   pub done : Option (Run G O F)
+  pub outcome : Option (Result (List (Run G O F)) (NoOutputs F))
   pub guards : Guards
   pub probed : Bool
   pub holds : ℕ
+  pub tally : Option Tally
   pub chair : Option Watch
 
 -- the call that a wait waits for
@@ -70,7 +74,7 @@ Where false A B = B
 
 module _ {X G O F : Type 0} where
   abbrev pub hand : Hands X G O F → Hand X G O F
-  hand s = record { index = s.index; shape = s.shape; deques = s.deques; own = s.own; inlet = s.inlet; thief = s.thief; task = s.task; call = s.call; reply = s.reply; done = s.done; guards = s.guards; probed = s.probed; holds = s.holds; chair = s.chair }
+  hand s = record { index = s.index; shape = s.shape; deques = s.deques; own = s.own; inlet = s.inlet; thief = s.thief; task = s.task; call = s.call; reply = s.reply; done = s.done; outcome = s.outcome; guards = s.guards; probed = s.probed; holds = s.holds; tally = s.tally; chair = s.chair }
 
   -- this latch was looked at last and was set, and its seat has seen so
   abbrev pub SawSet : Hand X G O F → Latch → Type 0

@@ -20,7 +20,7 @@ use Rattle.rayon_atomics.specs.declared.views.Teller.{Teller}
 use Rattle.rayon_atomics.specs.declared.views.Watch.{Watch}
 use Rattle.rayon_atomics.specs.Counted.{fresh, watch}
 use Rattle.rayon_tasks.specs.Tasks.{TaskOf, NoJob, OneJob, TwoSides}
-use Rattle.rayon_tasks.specs.Tickets.{TicketOf}
+use Rattle.rayon_tasks.specs.Tickets.{TicketOf, unscoped}
 use Rattle.rayon_jobs.specs.Within.{Run}
 use Rattle.rayon_performers.specs.declared.load.Load.{Load}
 use Rattle.rayon_performers.specs.declared.load.Load.TheVariants.{Job, Sides, Detached}
@@ -56,11 +56,11 @@ pub record Hand (X G O F H : Type 0) : Type 0 where
 
 -- the ticket of an outside caller's call of this name
 abbrev pub ticket_of : ℕ → TicketOf
-ticket_of n = record { owner = Caller 0; number = n; detached = false }
+ticket_of n = unscoped (Caller 0) n false
 
 -- the ticket of a detached job of this name that an outside caller spawned
 abbrev pub detached_ticket : ℕ → TicketOf
-detached_ticket n = record { owner = Caller 0; number = n; detached = true }
+detached_ticket n = unscoped (Caller 0) n true
 
 -- the call that sends the work of this name to the one pool that there is
 abbrev pub call_of : ℕ → OpenCall

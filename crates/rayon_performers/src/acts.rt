@@ -8,13 +8,15 @@ ghost use Rattle.rayon_machine_places.specs.declared.place.Party.TheVariants.{Wo
 ghost use Rattle.rayon_atomics.specs.Latches.{guard};
 ghost use Rattle.rayon_performers.specs.Hands.{Does, HasTicket, Looks, Needs, Told, answer, call_latch};
 ghost use Rattle.rayon_performers.specs.Keeps.{bench_needs, bench_on, bench_stays};
-ghost use Rattle.rayon_performers.specs.Marks.{GivesUnit, MissesUnit, NoLatch, SetBy, TakesUnit};
+ghost use Rattle.rayon_performers.specs.Marks.{GivesUnit, MissesUnit, NoLatch, SetBy, TakesUnit, scope_in};
 ghost use Rattle.rayon_performers.specs.Stands.{Anyhow, At, IsWorker};
 ghost use Rattle.rayon_queues.specs.Deques.{Pushed, SameDeque, Unmoved};
 ghost use Rattle.rayon_tasks.specs.Tasks.{taken_in};
+ghost use Rattle.rayon_tasks.specs.Tickets.{unscoped};
 
 use crate::bench::Bench;
 use rayon_atomics::latch::{CoreLatch, LatchSeat};
+use rayon_books::Outcome;
 use rayon_drive::drive::Perform;
 use rayon_jobs::JobKind;
 use rayon_machine_places::act::{Act, Seen};
@@ -55,7 +57,10 @@ impl<J: JobKind> Perform for Bench<J> {
                 Seen::Done
             }
             Act::Take(call) => self.take(rt, call),
-            Act::Lower { count, share } => yes(self.lower(rt, count, share)),
+            Act::Lower {
+                count: Count::OfPool(pool),
+                share,
+            } => yes(self.lower(rt, pool, share)),
             Act::PushOwn { .. }
             | Act::PushInj { .. }
             | Act::FifoIn { .. }
@@ -66,6 +71,7 @@ impl<J: JobKind> Perform for Bench<J> {
             | Act::Grow(_)
             | Act::LockWait(_)
             | Act::Raise { .. }
+            | Act::Lower { .. }
             | Act::Slot { .. }
             | Act::SlotUndo { .. }
             | Act::SlotAll(_)
@@ -250,11 +256,17 @@ impl<J: JobKind> Bench<J> {
         self.add(Act::Store { call, ending }, Seen::Done);
     }
 
-    // Takes what the call's cell holds.
+    // Takes what the call's cell holds, and of a scope's call what the scope's book gives.
     fn take<R: Wait>(&mut self, rt: &R, call: u64) -> Seen
         ensures does { Does (acts.Take call) result self.old self.new }
         ensures adds { Adds (acts.Take call) result self.old.trace self.new.trace }
     {
+        if let Some(outcome) = self.outcome_of_call(rt) {
+            let ending = outcome.ending();
+            self.done = None;
+            self.outcome = Some(outcome);
+            return self.add(Act::Take(call), Seen::Found(ending));
+        }
         let found = match &self.call {
             Some(call) => call.ticket.take(rt),
             None => None,
@@ -270,6 +282,19 @@ impl<J: JobKind> Bench<J> {
                 self.add(Act::Take(call), Seen::Missing)
             }
         }
+    }
+
+    // What the book of the scope gives whose call is at hand. None where that is no scope's.
+    #[inline(always)]
+    fn outcome_of_call<R: Wait>(&self, rt: &R) -> Option<Outcome<J>>
+        ensures { is_some result ≡ is_some (scope_in self.now.call) }
+    {
+        let call = self.call.as_ref()?;
+        let scope = call.ticket.scope()?;
+        let mut book = scope.book().hold(rt);
+        let outcome = Outcome::of_book(&mut book);
+        let _taken = scope.book().leave(rt, book);
+        Some(outcome)
     }
 
     // Takes a unit of the terminate count for a call of this worker. The outermost call's stands in the pool's own
@@ -322,12 +347,13 @@ impl<J: JobKind> Bench<J> {
 
     // Gives a unit of the terminate count back.
     #[inline(always)]
-    pub(crate) fn lower<R: Wait>(&mut self, rt: &R, count: Count, share: Share) -> bool
-        ensures does { Does (acts.Lower count share) (answer result) self.old self.new }
-        ensures adds { Adds (acts.Lower count share) (answer result) self.old.trace self.new.trace }
+    pub(crate) fn lower<R: Wait>(&mut self, rt: &R, pool: usize, share: Share) -> bool
+        ensures does { Does (acts.Lower (OfPool pool) share) (answer result) self.old self.new }
+        ensures adds { Adds (acts.Lower (OfPool pool) share) (answer result) self.old.trace self.new.trace }
         ensures left { self.new ≡ record self.old { holds = self.old.holds - 1; marks = self.new.marks; trace = self.new.trace } }
     {
         let was_last = self.give(rt);
+        let count = Count::OfPool(pool);
         self.add(Act::Lower { count, share }, yes(was_last));
         was_last
     }
@@ -351,7 +377,7 @@ impl<J: JobKind> Bench<J> {
     #[inline(always)]
     pub(crate) fn grow(&mut self, alloc: Global, number: u64) -> Option<(Call<J>, Ticket<J>)>
         ensures same { self.new ≡ record self.old { trace = self.new.trace } }
-        ensures grown { MatchOption result (Adds (acts.Grow number) saw.Refused self.old.trace self.new.trace) (λ t. Adds (acts.Grow number) saw.Done self.old.trace self.new.trace × (t.0.ticket ≡ record { owner = Worker 0 self.old.index; number = number; detached = false }) × (t.1 ≡ t.0.ticket)) }
+        ensures grown { MatchOption result (Adds (acts.Grow number) saw.Refused self.old.trace self.new.trace) (λ t. Adds (acts.Grow number) saw.Done self.old.trace self.new.trace × (t.0.ticket ≡ unscoped (Worker 0 self.old.index) number false) × (t.1 ≡ t.0.ticket)) }
     {
         match self.next_call(alloc, number) {
             Ok(grown) => {
@@ -365,12 +391,12 @@ impl<J: JobKind> Bench<J> {
         }
     }
 
-    // The call for the job of this name, and a share of its ticket: those that were kept last serve it, or new ones. Refused
-    // `NoRoom`.
+    // The call for the job of this name, and a share of its ticket: those that were kept last serve it, or new ones.
+    // Refused `NoRoom`.
     #[inline(always)]
     fn next_call(&mut self, alloc: Global, number: u64) -> Result<(Call<J>, Ticket<J>), Refusal>
         ensures same { self.new ≡ self.old }
-        ensures ticket { IfOk result (λ c. (c.0.ticket ≡ record { owner = Worker 0 self.old.index; number = number; detached = false }) × (c.1 ≡ c.0.ticket)) }
+        ensures ticket { IfOk result (λ c. (c.0.ticket ≡ unscoped (Worker 0 self.old.index) number false) × (c.1 ≡ c.0.ticket)) }
     {
         if let Some((Call { ticket, latch }, share)) = self.next_spare() {
             if self.is_own(&ticket) && self.is_own(&share) {
@@ -400,30 +426,38 @@ impl<J: JobKind> Bench<J> {
         }
     }
 
-    // Whether this is the ticket of a call of the worker's own.
+    // Whether this is the ticket of a call of the worker's own that is no scope's.
     #[inline(always)]
     fn is_own(&self, ticket: &Ticket<J>) -> bool
-        ensures { result ≡ true → (ticket.now.owner ≡ Worker 0 self.now.index) × (ticket.now.detached ≡ false) }
+        ensures { result ≡ true → ticket.now ≡ unscoped (Worker 0 self.now.index) ticket.now.number false }
     {
         match ticket.owner() {
-            Party::Worker { pool: 0, index } => index == self.index && !ticket.is_detached(),
+            Party::Worker { pool: 0, index } => {
+                index == self.index && !ticket.is_detached() && ticket.is_alone()
+            }
             _ => false,
         }
     }
 
-    // Pushes a task onto the own deque. Where there is no room the task comes back.
+    // Pushes a task onto the own deque, and leaves the book of the scope of this call, if there is one. Where there is
+    // no room the task comes back.
     #[inline(always)]
-    pub(crate) fn push_own(&mut self, job: u64, task: Task<J>) -> Result<(), Task<J>>
+    pub(crate) fn push_own(
+        &mut self,
+        job: u64,
+        book: Option<u64>,
+        task: Task<J>,
+    ) -> Result<(), Task<J>>
         ensures same { SameDeque self.old.own self.new.own × (self.new ≡ record self.old { own = self.new.own; trace = self.new.trace }) }
-        ensures pushed { MatchResult result (λ _. Pushed self.old.own task self.new.own × Adds (acts.PushOwn job None) saw.Done self.old.trace self.new.trace) (λ back. (back ≡ task) × Unmoved self.old.own self.new.own × Adds (acts.PushOwn job None) saw.Refused self.old.trace self.new.trace) }
+        ensures pushed { MatchResult result (λ _. Pushed self.old.own task self.new.own × Adds (acts.PushOwn job book) saw.Done self.old.trace self.new.trace) (λ back. (back ≡ task) × Unmoved self.old.own self.new.own × Adds (acts.PushOwn job book) saw.Refused self.old.trace self.new.trace) }
     {
         match self.own.push(task) {
             Ok(()) => {
-                self.add(Act::PushOwn { job, book: None }, Seen::Done);
+                self.add(Act::PushOwn { job, book }, Seen::Done);
                 Ok(())
             }
             Err(task) => {
-                self.add(Act::PushOwn { job, book: None }, Seen::Refused);
+                self.add(Act::PushOwn { job, book }, Seen::Refused);
                 Err(task)
             }
         }
@@ -455,7 +489,8 @@ impl<J: JobKind> Bench<J> {
         }
     }
 
-    // Sets a worker's terminate latch, or the core latch of the ticket to answer, by the one step that makes a seat of it.
+    // Sets a worker's terminate latch, or the core latch of the ticket to answer, by the one step that makes a seat of
+    // it.
     fn set(&mut self, latch: Latch, pool: usize, worker: usize) -> Seen
         requires { HasTicket self.old.reply (call_latch latch) }
         ensures does { Does (acts.Set latch pool worker) result self.old self.new }

@@ -14,6 +14,7 @@ use crate::registry::Registry;
 use rayon_atomics::count::CountSeat;
 use rayon_atomics::latch::LatchSeat;
 use rayon_atomics::own_latch::OwnLatch;
+use rayon_books::Outcome;
 use rayon_drive::trace::Trace;
 use rayon_jobs::{Done, JobKind};
 use rayon_machine_places::shape::PoolShape;
@@ -31,8 +32,8 @@ use std::sync::Arc;
 const SPARES: usize = 64;
 
 /// What a worker performs its acts with: its own deque and its passes of the other queues, and what the program at hand
-/// has. Each act of it adds one entry to its trace, and so does a run that the worker was lent to; meanwhile the trace is set
-/// aside.
+/// has. Each act of it adds one entry to its trace, and so does a run that the worker was lent to; meanwhile the trace
+/// is set aside.
 #[derive(Drop)]
 pub struct Bench<J: JobKind> {
     pub(crate) registry: Arc<Registry<Task<J>>, Global>,
@@ -44,8 +45,8 @@ pub struct Bench<J: JobKind> {
     pub(crate) thief: Option<StealPass<Task<J>>>,
     pub(crate) task: Option<Task<J>>,
     pub(crate) call: Option<Call<J>>,
-    // calls that have ended, each with the share of its ticket that went with the task and came back: they serve the next
-    // ones
+    // calls that have ended, each with the share of its ticket that went with the task and came back: they serve the
+    // next ones
     pub(crate) spares: Option<Vec<Option<(Call<J>, Ticket<J>)>>>,
     // how many of these places are filled: the first ones
     pub(crate) kept: usize,
@@ -55,10 +56,14 @@ pub struct Bench<J: JobKind> {
     pub(crate) done: Option<Done<J>>,
     // of two sides, the first side's result, and the ticket to whose cell it goes
     pub(crate) first: Option<(Ticket<J>, Done<J>)>,
+    // what the book of a scope that has ended gave
+    pub(crate) outcome: Option<Outcome<J>>,
     // the terminate latch, with the worker's own seat of it
     pub(crate) terminate: OwnLatch,
     pub(crate) probed: bool,
     pub(crate) holds: u64,
+    // the seat by which a scope's count was stepped on last
+    pub(crate) tally: Option<CountSeat>,
     // the seat of the terminate count
     pub(crate) count: CountSeat,
     // the seat by which a latch was set last
@@ -75,7 +80,7 @@ impl<J: JobKind> Model for Bench<J> {
     ghost use Rattle.rayon_atomics.specs.Tallies.{teller};
     ghost use Rattle.rayon_drive.specs.contracts.trace.Log as logs;
     ghost use Rattle.rayon_performers.specs.Hands.{Hands};
-    ghost use Rattle.rayon_performers.specs.Marks.{seat_in};
+    ghost use Rattle.rayon_performers.specs.Marks.{seat_in, tally_in};
     ghost use Rattle.rayon_tasks.specs.Calls.{latch_in, ticket_in};
 
     ghost Value = { Hands J J.Tag J.Output J.Fault };
@@ -93,9 +98,11 @@ impl<J: JobKind> Model for Bench<J> {
       call = ticket_in b.call;
       reply = b.reply;
       done = b.done;
+      outcome = b.outcome;
       guards = record { own = b.terminate; call = latch_in b.call };
       probed = b.probed;
       holds = b.holds;
+      tally = tally_in b.tally;
       marks = record { set = seat_in b.setter; count = teller b.count };
       chair = b.chair;
       trace = b.trace;
@@ -104,8 +111,8 @@ impl<J: JobKind> Model for Bench<J> {
     ghost invariant = { λ b. (b.inlet.injector ≡ (arc_value b.registry).injector) × (b.index < (arc_value b.registry).workers) × (b.count.table_id ≡ (arc_value b.registry).count) };
 }
 
-/// A worker's trace while it is lent to a run. Nobody can add to it, and it has no `Drop`: `Bench::put_back` alone takes it,
-/// to go on with it after the run.
+/// A worker's trace while it is lent to a run. Nobody can add to it, and it has no `Drop`: `Bench::put_back` alone
+/// takes it, to go on with it after the run.
 pub struct Aside {
     trace: Trace,
 }
@@ -154,9 +161,11 @@ impl<J: JobKind> Bench<J> {
             detached: None,
             done: None,
             first: None,
+            outcome: None,
             terminate,
             probed: false,
             holds: 0,
+            tally: None,
             count: registry.count_seat(),
             setter: None,
             chair: Some(chair),
@@ -219,8 +228,8 @@ impl<J: JobKind> Bench<J> {
         self.call.take()
     }
 
-    /// The call at hand has ended, and the one other share of its ticket came back, which was never used: its block, its
-    /// latch and both shares serve a later call. Where there is no room they are let go.
+    /// The call at hand has ended, and the one other share of its ticket came back, which was never used: its block,
+    /// its latch and both shares serve a later call. Where there is no room they are let go.
     #[inline(always)]
     pub fn keep_call(&mut self, alloc: Global, share: Ticket<J>)
         ensures { self.new ≡ record self.old { call = None; guards = record { own = self.old.guards.own; call = None } } }
@@ -262,6 +271,14 @@ impl<J: JobKind> Bench<J> {
         ensures left { self.new ≡ record self.old { task = None } }
     {
         self.task.take()
+    }
+
+    /// Takes what the book of a scope gave that has ended.
+    pub fn take_outcome(&mut self) -> Option<Outcome<J>>
+        ensures given { result ≡ self.old.outcome }
+        ensures left { self.new ≡ record self.old { outcome = None } }
+    {
+        self.outcome.take()
     }
 
     /// Takes the result that was found.

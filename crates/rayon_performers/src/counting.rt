@@ -1,5 +1,5 @@
-//! A worker's acts on the counters and on sleep locks: each makes one step of its seat, gives the seat to the worker's own
-//! sleep lock or takes it back, and adds the one entry of that act to the trace.
+//! A worker's acts on the counters and on sleep locks: each makes one step of its seat, gives the seat to the worker's
+//! own sleep lock or takes it back, and adds the one entry of that act to the trace.
 ghost use Rattle.std.specs.Prelude.{◌≡◌};
 ghost use Rattle.rayon_drive.specs.Traces.{Adds};
 ghost use Rattle.rayon_machine_places.specs.declared.act.Act.TheVariants as acts;
@@ -147,8 +147,8 @@ impl<J: JobKind> Bench<J> {
         }
     }
 
-    // Takes a worker's sleep lock, once nobody holds it. Where the worker is blocked that is its own, once it was woken,
-    // and its seat is at hand again.
+    // Takes a worker's sleep lock, once nobody holds it. Where the worker is blocked that is its own, once it was
+    // woken, and its seat is at hand again.
     pub(crate) fn lock<R: Wait>(&mut self, rt: &R, pool: usize, worker: usize) -> Seen
         ensures does { Does (acts.Lock pool worker) result self.old self.new }
         ensures adds { Adds (acts.Lock pool worker) result self.old.trace self.new.trace }

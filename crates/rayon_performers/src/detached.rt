@@ -1,6 +1,7 @@
-//! A worker's detached jobs: each has a unit of the terminate count of its own, which the spawn takes and the end of the job's
-//! run gives back. It stands in the pool's word, whatever units the worker's calls hold, since the job may outlast them; so
-//! while the spawn and that end last the job's unit stands in the place of theirs. And the end of each run.
+//! A worker's detached jobs: each has a unit of the terminate count of its own, which the spawn takes and the end of
+//! the job's run gives back. It stands in the pool's word, whatever units the worker's calls hold, since the job may
+//! outlast them; so while the spawn and that end last the job's unit stands in the place of theirs. And the end of each
+//! run.
 ghost use Rattle.std.specs.Prelude.{◌≡◌, ◌⊎◌, ◌+◌, ◌==◌, Bool, true, false, IfOk, IfErr, MatchResult};
 ghost use Rattle.rayon_machine_places.specs.declared.place.Count.TheVariants.{OfPool};
 ghost use Rattle.rayon_machine_places.specs.declared.place.Move.TheVariants.{Back, HandBack, Stay};
@@ -14,8 +15,9 @@ ghost use Rattle.rayon_performers.specs.Hands.{Told};
 ghost use Rattle.rayon_performers.specs.Marks.{GivesUnit, KeepsUnits, TakesUnit};
 ghost use Rattle.rayon_performers.specs.Paths.{WorkerGoes};
 ghost use Rattle.rayon_performers.specs.Seats.{Resting};
-ghost use Rattle.rayon_performers.specs.Spawns.{CanClose, ClosesRun, ClosesUnit, Spawns, SpawnsNone, detached_task, done_after, with_units};
+ghost use Rattle.rayon_performers.specs.Spawns.{CanClose, ClosesRun, ClosesUnit, Spawns, SpawnsNone, detached_task, done_after, tally_after, with_units};
 ghost use Rattle.rayon_queues.specs.Deques.{SameDeque, Unmoved};
+ghost use Rattle.rayon_tasks.specs.Tickets.{unscoped};
 
 use crate::bench::Bench;
 use crate::stretch::only_job;
@@ -28,9 +30,9 @@ use std::mem;
 use std::sync::Wait;
 
 impl<J: JobKind> Bench<J> {
-    /// Spawns a detached job of this name: Raise, LookOwn, PushOwn, News and its wakes. Refused `NoRoom` before its Raise or
-    /// at the push, `Ended`, `Full`, with the job back and nothing pushed; a unit of the terminate count that was taken is
-    /// given back. The units that the worker's calls hold are as before.
+    /// Spawns a detached job of this name: Raise, LookOwn, PushOwn, News and its wakes. Refused `NoRoom` before its
+    /// Raise or at the push, `Ended`, `Full`, with the job back and nothing pushed; a unit of the terminate count that
+    /// was taken is given back. The units that the worker's calls hold are as before.
     pub fn spawn<R: Wait>(
         &mut self,
         rt: &R,
@@ -61,8 +63,9 @@ impl<J: JobKind> Bench<J> {
         }
     }
 
-    // Takes a unit of the terminate count for the job of this name and puts its task into the own deque, by the units at
-    // hand. Refused `NoRoom`, `Ended`, `Full`, with the task back and nothing pushed; a unit that was taken is given back.
+    // Takes a unit of the terminate count for the job of this name and puts its task into the own deque, by the units
+    // at hand. Refused `NoRoom`, `Ended`, `Full`, with the task back and nothing pushed; a unit that was taken is given
+    // back.
     #[inline(always)]
     fn queue_job<R: Wait>(
         &mut self,
@@ -96,15 +99,17 @@ impl<J: JobKind> Bench<J> {
         }
     }
 
-    /// The end of a run of this kind, whose job has this name and ended so. Where a call waits for the job the result at hand
-    /// goes where the call looks for it, the call's latch is set, and its owner is woken where it slept. A detached job's unit
-    /// of the terminate count is given back, and where it was the last the workers' terminate latches are set. Of a job that
-    /// was in no queue nothing is done: the call below goes on.
+    /// The end of a run of this kind, whose job has this name and ended so. Where a call waits for the job the result
+    /// at hand goes where the call looks for it, the call's latch is set, and its owner is woken where it slept. That
+    /// of a scope's job goes into the scope's book, its share of the scope's count is given back, and where it was the
+    /// last the scope's latch is set in the same way. A detached job's unit of the terminate count is given back, and
+    /// where it was the last the workers' terminate latches are set. Of a job that was in no queue nothing is done: the
+    /// call below goes on.
     pub fn close<R: Wait>(&mut self, rt: &R, kind: Kind, job: u64, ending: Ending)
         requires asks { CanClose kind ending self.old }
         requires rests { Resting self.old.chair }
         ensures path { ClosesRun kind job ending self.old self.new }
-        ensures left { self.new ≡ record self.old { done = done_after kind self.old.done; marks = self.new.marks; trace = self.new.trace } }
+        ensures left { self.new ≡ record self.old { done = done_after kind self.old.done; tally = tally_after kind self.old.tally self.new.tally; marks = self.new.marks; trace = self.new.trace } }
         ensures unit { ClosesUnit kind self.old.marks.count self.new.marks.count }
         ensures rests { Resting self.new.chair }
     {
@@ -112,8 +117,8 @@ impl<J: JobKind> Bench<J> {
             Kind::Stored { call, owner } => self.tell(rt, call, owner, ending),
             Kind::Detached(_) => self.end_detached(rt, job),
             Kind::Direct => {}
-            Kind::Scoped { .. }
-            | Kind::BodyOf { .. }
+            Kind::Scoped { call, owner } => self.end_scoped(rt, call, owner, job, ending),
+            Kind::BodyOf { .. }
             | Kind::PieceOf { .. }
             | Kind::WholeOf { .. }
             | Kind::TokenOf { .. } => unreachable!(),
@@ -150,7 +155,7 @@ impl<J: JobKind> Bench<J> {
         name: u64,
     ) -> Result<Ticket<J>, Refusal>
         ensures same { self.new ≡ self.old }
-        ensures ticket { IfOk result (λ t. t ≡ record { owner = Worker 0 self.old.index; number = name; detached = true }) }
+        ensures ticket { IfOk result (λ t. t ≡ unscoped (Worker 0 self.old.index) name true) }
         ensures refused { IfErr result (λ r. r ≡ Refusal.NoRoom) }
     {
         if let Some(ticket) = &self.detached {
@@ -167,10 +172,12 @@ impl<J: JobKind> Bench<J> {
 
     // Whether this is the ticket of a detached job of the worker's own.
     fn is_own_detached(&self, ticket: &Ticket<J>) -> bool
-        ensures { result ≡ true → (ticket.now.owner ≡ Worker 0 self.now.index) × (ticket.now.detached ≡ true) }
+        ensures { result ≡ true → ticket.now ≡ unscoped (Worker 0 self.now.index) ticket.now.number true }
     {
         match ticket.owner() {
-            Party::Worker { pool: 0, index } => index == self.index && ticket.is_detached(),
+            Party::Worker { pool: 0, index } => {
+                index == self.index && ticket.is_detached() && ticket.is_alone()
+            }
             _ => false,
         }
     }

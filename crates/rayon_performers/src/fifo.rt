@@ -84,10 +84,10 @@ impl<J: JobKind> Bench<J> {
         }
     }
 
-    /// Adds a task last to the own FIFO list, and pushes a token of this name: a spawn in order without its Raise, and as
-    /// far as its end. Refused for want of room alone, with the task back and nothing added: before any act, or so that the
-    /// path leads to where the table has such a call give its unit of the terminate count back. That Lower is not performed
-    /// here, as with `push`.
+    /// Adds a task last to the own FIFO list, and pushes a token of this name: a spawn in order without its Raise, and
+    /// as far as its end. Refused for want of room alone, with the task back and nothing added: before any act, or so
+    /// that the path leads to where the table has such a call give its unit of the terminate count back. That Lower is
+    /// not performed here, as with `push`.
     pub fn push_fifo<R: Wait>(
         &mut self,
         rt: &R,
@@ -210,7 +210,7 @@ impl<J: JobKind> Bench<J> {
         }
         self.add(add, Seen::Done);
         let was_empty = self.look_own();
-        let Err(_refused) = self.push_own(token, token_of(share)) else {
+        let Err(_refused) = self.push_own(token, None, token_of(share)) else {
             return Ok(was_empty);
         };
         let Some(task) = list.undo_last() else {

@@ -41,8 +41,8 @@ use std::marker::Model;
 use std::sync::Wait;
 
 /// An outside caller, for the time of one call: its pass of the injector, what the call queues, until it is queued, the
-/// tickets of the call, the results that it found and its unit of the terminate count. Each act of it adds one entry to its
-/// trace, and nothing else does.
+/// tickets of the call, the results that it found and its unit of the terminate count. Each act of it adds one entry to
+/// its trace, and nothing else does.
 #[derive(Drop)]
 pub struct Guest<'a, J: JobKind> {
     registry: &'a Registry<Task<J>>,
@@ -224,8 +224,8 @@ impl<'a, J: JobKind> Guest<'a, J> {
         Seen::Done
     }
 
-    // Puts the load last into the injector, as a task with shares of the call's tickets. Where there is no room it stays in
-    // hand.
+    // Puts the load last into the injector, as a task with shares of the call's tickets. Where there is no room it
+    // stays in hand.
     fn push<R: Wait>(&mut self, rt: &R, name: u64) -> Seen
         requires { Packed name self.old.load self.old.call self.old.first }
         ensures pushed { self.new ≡ record self.old { inlet = if_done result (sent name self.old.load self.old.inlet) self.old.inlet; load = if_done result None self.old.load; holds = if_done result (unit_after self.old.load self.old.holds) self.old.holds } }
@@ -375,10 +375,10 @@ impl<'a, J: JobKind> Guest<'a, J> {
         drive(rt, shape, CALLER, Move::Stay(place), self)
     }
 
-    /// Makes the call of this plan with this load: it takes its unit of the terminate count, makes its tickets, queues the
-    /// load, wakes workers for it, and if it waits blocks until its results are there. Answers the results that were found,
-    /// of two sides that of the first one first. Refused `Ended`, `Full`, `NoRoom`, with the load back: nothing was pushed
-    /// then, and a unit of the terminate count that was taken is given back.
+    /// Makes the call of this plan with this load: it takes its unit of the terminate count, makes its tickets, queues
+    /// the load, wakes workers for it, and if it waits blocks until its results are there. Answers the results that
+    /// were found, of two sides that of the first one first. Refused `Ended`, `Full`, `NoRoom`, with the load back:
+    /// nothing was pushed then, and a unit of the terminate count that was taken is given back.
     pub fn call<R: Wait>(
         &mut self,
         rt: &R,
@@ -410,8 +410,8 @@ impl<'a, J: JobKind> Guest<'a, J> {
         }
     }
 
-    /// Gives the unit of the terminate count back that this pool's value holds, by the seat of that unit. Where it was the
-    /// last, each worker's terminate latch is set.
+    /// Gives the unit of the terminate count back that this pool's value holds, by the seat of that unit. Where it was
+    /// the last, each worker's terminate latch is set.
     pub fn end<R: Wait>(&mut self, rt: &R, hold: PoolHold)
         requires idle { (self.old.load ≡ None) × (self.old.holds ≡ false) }
         requires own { hold ≡ self.old.count }

@@ -13,6 +13,7 @@ mod load;
 mod looks;
 mod reclaimed;
 mod registry;
+mod scope;
 mod stretch;
 mod terminate;
 

@@ -94,7 +94,7 @@ impl<J: JobKind> Bench<J> {
     {
         let name = task.number();
         let was_empty = self.look_own();
-        self.push_own(name, task)?;
+        self.push_own(name, None, task)?;
         self.tell_pushed(rt, name, was_empty);
         Ok(())
     }

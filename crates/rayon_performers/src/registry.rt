@@ -29,8 +29,8 @@ use std::sync::{Arc, Mutex, Wait};
 // How many searches of an idle worker fail before it announces itself, less one.
 const ROUNDS_UNTIL_SLEEPY: u64 = 32;
 
-/// What the threads of a pool share, where its queues hold `T`: tasks. Contracts see how many workers it has, the levels of a worker value that no run
-/// was lent yet, and which deques and which injector are its own.
+/// What the threads of a pool share, where its queues hold `T`: tasks. Contracts see how many workers it has, the
+/// levels of a worker value that no run was lent yet, and which deques and which injector are its own.
 #[derive(Drop)]
 pub struct Registry<T> {
     depth_limit: usize,
@@ -60,9 +60,9 @@ impl<T> Model for Registry<T> {
 }
 
 impl<T: Drop> Registry<T> {
-    /// The shared part of a pool of so many workers, what each worker begins with by index, and the unit of the terminate
-    /// count that the pool's value holds. A `depth_limit` of 0 counts as 1; `breadth_first` has each worker take the oldest
-    /// task of its own deque first. Refused `NoRoom`.
+    /// The shared part of a pool of so many workers, what each worker begins with by index, and the unit of the
+    /// terminate count that the pool's value holds. A `depth_limit` of 0 counts as 1; `breadth_first` has each worker
+    /// take the oldest task of its own deque first. Refused `NoRoom`.
     pub fn new(
         alloc: Global,
         num_threads: usize,
@@ -241,8 +241,8 @@ impl<T: Drop> Registry<T> {
     }
 }
 
-// What one worker more begins with: its own deque, which gives the oldest task first where it says so, this seat and this
-// latch; and the stealer of the deque.
+// What one worker more begins with: its own deque, which gives the oldest task first where it says so, this seat and
+// this latch; and the stealer of the deque.
 fn new_kit<T: Drop>(
     alloc: Global,
     stealers: &mut Stealers<T>,

@@ -4,6 +4,7 @@ ghost use Rattle.std.specs.Prelude.{◌≡◌, ◌⊎◌, ◌↔◌, ◌+◌, �
 ghost use Rattle.rayon_drive.specs.Paths.{goes};
 ghost use Rattle.rayon_machine_places.specs.Places.{finish, fresh, next_of};
 ghost use Rattle.rayon_tasks.specs.Tasks.{OneJob};
+ghost use Rattle.rayon_tasks.specs.Tickets.{unscoped};
 ghost use Rattle.rayon_machine_places.specs.declared.act.Seen.TheVariants as saw;
 ghost use Rattle.rayon_machine_places.specs.declared.place.Count.TheVariants.{OfPool};
 ghost use Rattle.rayon_machine_places.specs.declared.place.JobKind.TheVariants.{Direct};
@@ -69,8 +70,8 @@ impl<J: JobKind> Bench<J> {
         self.first_looks(rt, target)
     }
 
-    // The first two looks of a wait, of which the second one mostly finds a task, and from there on all others: as far as
-    // a task that was found, or to the end of the wait.
+    // The first two looks of a wait, of which the second one mostly finds a task, and from there on all others: as far
+    // as a task that was found, or to the end of the wait.
     #[inline(always)]
     fn first_looks<R: Wait>(&mut self, rt: &R, target: Target) -> Move
         requires ticket { HasTicket self.old.call (call_to target) }
@@ -108,12 +109,12 @@ impl<J: JobKind> Bench<J> {
     }
 
     /// Waits until this latch is set, which is no call's, and works meanwhile: as far as a task that it has found, or
-    /// to the end of the wait. Then the latch's owner has seen it set. Whoever sets it wakes this worker, as `SpinLatch`
-    /// does.
+    /// to the end of the wait. Then the latch's owner has seen it set. Whoever sets it wakes this worker, as
+    /// `SpinLatch` does.
     ///
-    /// The table has one latch of a worker's that is no call's, so the latch that was handed in stands where the worker's
-    /// terminate latch does for as long as the wait lasts. In the trace it stands under the name of that, and the end of
-    /// the wait is the place `Stopped`; the worker goes on after it.
+    /// The table has one latch of a worker's that is no call's, so the latch that was handed in stands where the
+    /// worker's terminate latch does for as long as the wait lasts. In the trace it stands under the name of that, and
+    /// the end of the wait is the place `Stopped`; the worker goes on after it.
     pub fn wait_on<R: Wait>(&mut self, rt: &R, latch: &mut OwnLatch) -> Move
         requires { Resting self.old.chair }
         ensures path { WorkerGoes (Stay (at.ProbeWorking (fresh Termination))) (waiting_on latch.old self.old) (waiting_on latch.new self.new) result }
@@ -188,7 +189,7 @@ impl<J: JobKind> Bench<J> {
         let shape = self.shape;
         let index = self.index;
         let share = Share::OfJob(job);
-        if self.lower(rt, Count::OfPool(0), share) {
+        if self.lower(rt, 0, share) {
             let place = Place::LowerCount {
                 count: Count::OfPool(0),
                 share,
@@ -218,7 +219,7 @@ impl<J: JobKind> Bench<J> {
             (λ c. StandsLast self.old.own (record { work = OneJob job; injected = injected; ticket = c.ticket }) self.new.own)
             (λ e. (e.1 ≡ job) × Unmoved self.old.own self.new.own) }
         ensures deque { SameDeque self.old.own self.new.own }
-        ensures ticket { IfOk result (λ c. c.ticket ≡ record { owner = Worker 0 self.old.index; number = name; detached = false }) }
+        ensures ticket { IfOk result (λ c. c.ticket ≡ unscoped (Worker 0 self.old.index) name false) }
         ensures left { MatchResult result
             (λ _. self.new ≡ record self.old { own = self.new.own; holds = self.old.holds + 1; marks = self.new.marks; chair = self.new.chair; trace = self.new.trace })
             (λ _. self.new ≡ record self.old { own = self.new.own; marks = self.new.marks; trace = self.new.trace }) }
@@ -240,7 +241,7 @@ impl<J: JobKind> Bench<J> {
             return Err((Refusal::NoRoom, job));
         };
         let was_empty = self.look_own();
-        if let Err(task) = self.push_own(name, task_of_job(job, injected, share)) {
+        if let Err(task) = self.push_own(name, None, task_of_job(job, injected, share)) {
             self.lower_then(rt, name, Then::GiveBack(plan));
             return Err((Refusal::NoRoom, only_job(task)));
         }

@@ -1,6 +1,6 @@
-use Rattle.std.proofs.Common.{refl, sym, subst, true, false}
+use Rattle.std.proofs.Common.{sym, subst, true, false}
 use Rattle.rayon_machine_places.specs.declared.act.Act.TheVariants as acts
-use Rattle.rayon_machine_places.specs.declared.act.Seen.TheVariants.{Yes, No, Task}
+use Rattle.rayon_machine_places.specs.declared.act.Seen.TheVariants.{Yes, No}
 use Rattle.rayon_machine_places.specs.declared.place.Move.TheVariants.{Enter, Stay}
 use Rattle.rayon_machine_places.specs.declared.place.Party.TheVariants.{Worker}
 use Rattle.rayon_machine_places.specs.declared.place.Place.TheVariants as at

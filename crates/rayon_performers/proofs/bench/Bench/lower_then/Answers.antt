@@ -37,7 +37,7 @@ finish_from-requires-clause-hands g c =
     let s = c.args.self.now in
     let u = c.lower.new.self in
     subst (λ v. At Anyhow (Worker 0 v.index) u (settle v.shape (Worker 0 v.index) 0 0 c.args.then)) (sym c.self.view_is)
-    (settle_at Anyhow u s.shape 0 s.index 0 0 c.args.then (follows Anyhow s u (s.holds - 1) 0 s.index c.args.then (ap hand c.if-lower.ensures.left) c.requires.last c.requires.rests tt))
+    (settle_at Anyhow u s.shape 0 s.index 0 0 c.args.then (follows Anyhow s u (s.holds - 1) s.tally 0 s.index c.args.then (ap hand c.if-lower.ensures.left) c.requires.last c.requires.rests tt))
 
 pub finish_from-requires-clause-ends : goal.finish_from-requires-clause-ends
 finish_from-requires-clause-ends g c =
@@ -45,7 +45,7 @@ finish_from-requires-clause-ends g c =
     let u = c.lower.new.self in
     let last = finish (Worker 0 s.index) c.args.then in
     subst (λ v. EndsIn (Worker 0 v.index) (finish (Worker 0 v.index) c.args.then) u (settle v.shape (Worker 0 v.index) 0 0 c.args.then)) (sym c.self.view_is)
-    (settle_at (λ m v. (m ≡ last) × (v ≡ hand u)) u s.shape 0 s.index 0 0 c.args.then (follows (λ m v. (m ≡ last) × (v ≡ hand u)) s u (s.holds - 1) 0 s.index c.args.then (ap hand c.if-lower.ensures.left) c.requires.last c.requires.rests (refl, refl)))
+    (settle_at (λ m v. (m ≡ last) × (v ≡ hand u)) u s.shape 0 s.index 0 0 c.args.then (follows (λ m v. (m ≡ last) × (v ≡ hand u)) s u (s.holds - 1) s.tally 0 s.index c.args.then (ap hand c.if-lower.ensures.left) c.requires.last c.requires.rests (refl, refl)))
 
 pub returns-then-lower-clause-unit : goal.returns-then-lower-clause-unit
 returns-then-lower-clause-unit g c =

@@ -1,10 +1,8 @@
-use Rattle.std.proofs.Common.{◌≡◌, refl, subst, sym}
+use Rattle.std.proofs.Common.{◌≡◌, subst, sym}
 use Rattle.rayon_machine_places.specs.declared.place.Move.TheVariants.{Stay}
-use Rattle.rayon_machine_places.specs.declared.place.Party.TheVariants.{Worker}
 use Rattle.rayon_machine_places.specs.declared.place.Place.TheVariants as at
 use Rattle.rayon_machine_places.specs.declared.place.Target.TheVariants.{Termination}
 use Rattle.rayon_machine_places.specs.Places.{fresh}
-use Rattle.rayon_performers.specs.Hands.{Does}
 use Rattle.rayon_performers.specs.Paths.{WorkerGoes}
 use Rattle.rayon_performers.specs.Stands.{Stands}
 use Rattle.rayon_performers.specs.Waits.{waiting_on}

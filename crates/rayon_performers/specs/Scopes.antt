@@ -1,0 +1,44 @@
+-- What a spawn into a scope does.
+use Rattle.std.specs.Prelude.{◌≡◌, ◌⊎◌, ℕ, false, Option}
+use Rattle.rayon_machine_places.specs.declared.place.Entry.{Entry}
+use Rattle.rayon_machine_places.specs.declared.place.Move.TheVariants.{Back, HandBack, Stay}
+use Rattle.rayon_machine_places.specs.declared.place.Party.{Party}
+use Rattle.rayon_machine_places.specs.declared.place.Place.TheVariants.{RaiseCount}
+use Rattle.rayon_machine_places.specs.declared.place.Plan.{Plan}
+use Rattle.rayon_machine_places.specs.declared.place.Plan.TheVariants.{Enter}
+use Rattle.rayon_machine_places.specs.declared.shape.PoolShape.{PoolShape}
+use Rattle.rayon_drive.specs.declared.trace.Log.{Log}
+use Rattle.rayon_drive.specs.Paths.{Traced}
+use Rattle.rayon_tasks.specs.Tasks.{OneJob, TaskOf}
+use Rattle.rayon_tasks.specs.Tickets.{TicketOf}
+use Rattle.rayon_performers.specs.Hands.{Hands}
+use Rattle.rayon_performers.specs.Paths.{WorkerGoes}
+
+-- the spawn of the job of this name into the scope of this call and this owner, in the one pool that there is
+abbrev pub entry_of : ℕ → Party → ℕ → Entry
+entry_of c o n = record { call = c; owner = o; pool = 0; job = n }
+
+abbrev pub entering : ℕ → Party → ℕ → Plan
+entering c o n = Enter (entry_of c o n)
+
+-- the acts of such a spawn, from its Raise to its end
+abbrev pub Entered : PoolShape → Party → ℕ → Party → ℕ → Log → Log → Type 0
+Entered h q c o n v w = Traced h q (Stay (RaiseCount (entering c o n))) v w Back
+
+-- the task of a job of this name that was spawned by a worker into the scope that this ticket is of, and has this number in
+-- the scope's book
+abbrev pub entered_task : {X : Type 0} → X → TicketOf → ℕ → ℕ → TaskOf X
+entered_task j u n k = record { work = OneJob j; injected = false; ticket = record u { number = n; slot = k } }
+
+module _ {X G O F : Type 0} where
+  -- the same worker, where this ticket stands for the one that it is to answer: that of a scope, while it spawns into it
+  abbrev pub answering : Option TicketOf → Hands X G O F → Hands X G O F
+  answering k s = record s { reply = k }
+
+  -- a worker spawned the job of this name into the scope, from its Raise to its end
+  abbrev pub Enters : Option TicketOf → ℕ → Party → ℕ → Hands X G O F → Hands X G O F → Type 0
+  Enters k c o n s t = WorkerGoes (Stay (RaiseCount (entering c o n))) (answering k s) (answering k t) Back
+
+  -- such a spawn was refused: before its Raise, when nothing was done, or from there to where it hands its job back
+  abbrev pub EntersNone : Option TicketOf → ℕ → Party → ℕ → Hands X G O F → Hands X G O F → Type 0
+  EntersNone k c o n s t = (t ≡ s) ⊎ WorkerGoes (Stay (RaiseCount (entering c o n))) (answering k s) (answering k t) (HandBack (entering c o n))

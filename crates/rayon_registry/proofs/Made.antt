@@ -1,5 +1,5 @@
 -- The acts of a performer's path are those of a path, whatever they did.
-use Rattle.std.proofs.Common.{◌≡◌, ◌⊎◌, inl, inr, Bool, true, false, true≢false, ℕ, [], ◌∷◌, Option, None, Some, Result, Ok, Err, MatchOption, MatchResult, IfErr, refl, sym, subst, ap}
+use Rattle.std.proofs.Common.{◌≡◌, ◌⊎◌, inl, inr, Bool, true, false, true≢false, ℕ, [], ◌∷◌, Option, None, Some, Result, Ok, Err, MatchOption, MatchResult, IfErr, refl, sym, subst, ap, ◌∙◌}
 use Rattle.rayon_machine_places.specs.declared.place.Count.TheVariants.{OfPool}
 use Rattle.std.specs.Result.{IsErr}
 use Rattle.rayon_words.specs.declared.refusal.CallError.{CallError}
@@ -8,7 +8,7 @@ use Rattle.rayon_machine_places.specs.declared.place.Ending.TheVariants.{Fine}
 use Rattle.rayon_machine_places.specs.declared.place.JobKind.{JobKind}
 use Rattle.rayon_machine_places.specs.declared.place.JobKind.TheVariants.{BodyOf, Detached, Direct, PieceOf, Scoped, Stored, TokenOf, WholeOf}
 use Rattle.rayon_machine_places.specs.declared.place.OpenCall.{OpenCall}
-use Rattle.rayon_machine_places.specs.declared.place.Plan.TheVariants.{Detach, Feed}
+use Rattle.rayon_machine_places.specs.declared.place.Plan.TheVariants.{Detach, Feed, Open}
 use Rattle.rayon_machine_places.specs.declared.place.Share.TheVariants.{OfJob}
 use Rattle.rayon_machine_places.specs.declared.place.Then.TheVariants.{Answers, Resume}
 use Rattle.rayon_machine_places.specs.declared.place.Party.{Party}
@@ -28,16 +28,21 @@ use Rattle.rayon_drive.specs.Traces.{AddsRun}
 use Rattle.rayon_drive.specs.Paths.{Traced}
 use Rattle.rayon_drive.proofs.Traced.{traced_as}
 use Rattle.rayon_tasks.specs.Tasks.{TaskOf, taken_in}
-use Rattle.rayon_tasks.specs.Tickets.{TicketOf, kind_in}
+use Rattle.rayon_tasks.specs.Tickets.{ScopeOf, TicketOf, call_in, kind_alone, kind_in}
 use Rattle.rayon_performers.specs.Begins.{begins_as}
+use Rattle.rayon_performers.specs.Calls.{own_call}
 use Rattle.rayon_performers.specs.Fifos.{Fed, FeedsList, FeedsNone, feeding}
-use Rattle.rayon_performers.specs.Hands.{Hands}
+use Rattle.rayon_jobs.specs.Endings.{ending_of}
+use Rattle.rayon_jobs.specs.Within.{Run}
+use Rattle.rayon_performers.specs.Hands.{Hands, HasResult, HasTicket}
+use Rattle.rayon_performers.specs.Marks.{IsScope, scope_in}
 use Rattle.rayon_performers.specs.Paths.{WorkerGoes}
-use Rattle.rayon_performers.specs.Spawns.{ClosesRun, Spawned, Spawns, SpawnsNone, with_units}
+use Rattle.rayon_performers.specs.Scopes.{Entered, Enters, EntersNone, answering, entering}
+use Rattle.rayon_performers.specs.Spawns.{CanClose, ClosesRun, Spawned, Spawns, SpawnsNone, with_units}
 use Rattle.rayon_performers.specs.Stands.{Stands}
 use Rattle.rayon_performers.specs.Waits.{Waited, units_after}
 use Rattle.rayon_performers.proofs.Stretches.{So, traced}
-use Rattle.rayon_registry.specs.Acts.{CallMade, Closes, Follows, HandedBack, HasRun, Lowered, Unlisted, Worked, resumed, wait_end}
+use Rattle.rayon_registry.specs.Acts.{CallMade, Closes, Follows, HandedBack, HasRun, Lowered, ScopeOpened, Unlisted, Worked, resumed, wait_end}
 use Rattle.rayon_registry.specs.Worker.{AfterWait, Worker as WorkerValue}
 
 module _ {X G O F : Type 0} (h : PoolShape) (i : ℕ) (m : Move) (s t : Hands X G O F) where
@@ -78,6 +83,21 @@ module _ {X G O F : Type 0} (n : ℕ) (s t : Hands X G O F) where
   unfed k (inl e) = inl (ap (λ (z : Hands X G O F). z.trace) e)
   unfed k (inr d) = inr (n, traced s.shape s.index (Stay (at.RaiseCount (Feed (feeding n k)))) (with_units 0 s) (with_units 0 t) (HandBack (Feed (feeding n k))) d)
 
+  -- a spawn into a scope, by the ticket that was at hand
+  pub entered : (k : Option TicketOf) (c : ℕ) (o : Party) → Enters k c o n s t → Entered s.shape (Worker 0 s.index) c o n s.trace t.trace
+  entered k c o d = traced s.shape s.index (Stay (at.RaiseCount (entering c o n))) (answering k s) (answering k t) Back d
+
+  pub unentered : (k : Option TicketOf) (c : ℕ) (o : Party) → EntersNone k c o n s t → HandedBack s.shape (Worker 0 s.index) (entering c o) s.trace t.trace
+  unentered k c o (inl e) = inl (ap (λ (z : Hands X G O F). z.trace) e)
+  unentered k c o (inr d) = inr (n, traced s.shape s.index (Stay (at.RaiseCount (entering c o n))) (answering k s) (answering k t) (HandBack (entering c o n)) d)
+
+  -- a scope was opened, or not
+  pub scope_opened : WorkerGoes (Stay (at.RaiseCount (Open (own_call n)))) s t (StartRun (at.ScopeBody (own_call n)) n) → ScopeOpened s.shape (Worker 0 s.index) n s.trace t.trace
+  scope_opened d = traced s.shape s.index (Stay (at.RaiseCount (Open (own_call n)))) s t (StartRun (at.ScopeBody (own_call n)) n) d
+
+  pub scope_refused : WorkerGoes (Stay (at.RaiseCount (Open (own_call n)))) s t (HandBack (Open (own_call n))) → HandedBack s.shape (Worker 0 s.index) (λ j. Open (own_call j)) s.trace t.trace
+  scope_refused d = inr (n, traced s.shape s.index (Stay (at.RaiseCount (Open (own_call n)))) s t (HandBack (Open (own_call n))) d)
+
   -- a task of this name is added to the own FIFO list, or not
   pub listed : (k : ℕ) → WorkerGoes (Stay (at.AddToFifo (feeding n k))) s t Back → Traced s.shape (Worker 0 s.index) (Stay (at.AddToFifo (feeding n k))) s.trace t.trace Back
   listed k d = traced s.shape s.index (Stay (at.AddToFifo (feeding n k))) s t Back d
@@ -99,11 +119,12 @@ module _ {X G O F : Type 0} (n : ℕ) (s t : Hands X G O F) where
 
 -- a job that a worker took has a run
 pub has_run : (t : TicketOf) → HasRun (kind_in t)
-has_run t = by t.detached
+has_run t = by t.scope t.detached
   where
-    by : (b : Bool) → HasRun (elim b [ true ↦ Detached 0 | false ↦ Stored t.number t.owner ])
-    by true = tt
-    by false = tt
+    by : (s : Option ScopeOf) (b : Bool) → HasRun (elim s [ None ↦ elim b [ true ↦ Detached 0 | false ↦ Stored t.number t.owner ] | Some k ↦ Scoped k.call t.owner ])
+    by None true = tt
+    by None false = tt
+    by (Some k) b = tt
 
 -- the pool of a detached job is the own one
 abbrev pool_in : JobKind → ℕ
@@ -111,11 +132,31 @@ pool_in (Detached p) = p
 pool_in _ = 0
 
 pub own_pool : (k : JobKind) (t : TicketOf) (p : ℕ) → k ≡ kind_in t → k ≡ Detached p → p ≡ 0
-own_pool k t p e f = by t.detached (subst (λ (z : JobKind). z ≡ Detached p) e f)
+own_pool k t p e f = by t.scope t.detached (subst (λ (z : JobKind). z ≡ Detached p) e f)
   where
-    by : (b : Bool) → elim b [ true ↦ Detached 0 | false ↦ Stored t.number t.owner ] ≡ Detached p → p ≡ 0
-    by true g = sym (ap pool_in g)
-    by false g = sym (ap pool_in g)
+    by : (s : Option ScopeOf) (b : Bool) → elim s [ None ↦ elim b [ true ↦ Detached 0 | false ↦ Stored t.number t.owner ] | Some c ↦ Scoped c.call t.owner ] ≡ Detached p → p ≡ 0
+    by None true g = sym (ap pool_in g)
+    by None false g = sym (ap pool_in g)
+    by (Some c) b g = sym (ap pool_in g)
+
+-- what the end of a run asks, of a job that was taken: its ticket and its result are in hand
+pub can_close : {X G O F : Type 0} (k : JobKind) (t : TicketOf) (r : Run G O F) (s : Hands X G O F) → k ≡ kind_in t → ((p : ℕ) → k ≡ Detached p → ⊥) → s.reply ≡ Some t → s.done ≡ Some r → CanClose k (ending_of r.answer) s
+can_close {X} {G} {O} {F} k t r s e n a b = by t.scope t.detached refl refl
+  where
+    here : JobKind → Type 0
+    here z = CanClose z (ending_of r.answer) s
+
+    by : (q : Option ScopeOf) (d : Bool) → t.scope ≡ q → t.detached ≡ d → CanClose k (ending_of r.answer) s
+    by None true f g =
+        let is : kind_in t ≡ Detached 0 = subst (λ (z : Option ScopeOf). elim z [ None ↦ kind_alone t | Some c ↦ Scoped c.call t.owner ] ≡ Detached 0) (sym f) (subst (λ (z : Bool). elim z [ true ↦ Detached 0 | false ↦ Stored t.number t.owner ] ≡ Detached 0) (sym g) refl) in
+        absurd (n 0 (e ∙ is))
+    by None false f g =
+        let is : kind_in t ≡ Stored t.number t.owner = subst (λ (z : Option ScopeOf). elim z [ None ↦ kind_alone t | Some c ↦ Scoped c.call t.owner ] ≡ Stored t.number t.owner) (sym f) (subst (λ (z : Bool). elim z [ true ↦ Detached 0 | false ↦ Stored t.number t.owner ] ≡ Stored t.number t.owner) (sym g) refl) in
+        let mine : call_in t ≡ t.number = subst (λ (z : Option ScopeOf). elim z [ None ↦ t.number | Some c ↦ c.call ] ≡ t.number) (sym f) refl in
+        subst here (sym (e ∙ is)) (subst (λ (z : Option TicketOf). HasTicket z (Some t.number)) (sym a) mine, subst (λ (z : Option (Run G O F)). HasResult z (Some (ending_of r.answer))) (sym b) refl)
+    by (Some c) d f g =
+        let is : kind_in t ≡ Scoped c.call t.owner = subst (λ (z : Option ScopeOf). elim z [ None ↦ kind_alone t | Some k ↦ Scoped k.call t.owner ] ≡ Scoped c.call t.owner) (sym f) refl in
+        subst here (sym (e ∙ is)) (subst (λ (z : Option TicketOf). IsScope (scope_in z) c.call) (sym a) (subst (λ (z : Option ScopeOf). IsScope z c.call) (sym f) refl), subst (λ (z : Option (Run G O F)). HasResult z (Some (ending_of r.answer))) (sym b) refl)
 
 -- the acts of a run's end, said of equal kinds and endings
 pub closes_so : (h : PoolShape) (q : Party) (t r : ℕ) (k o : JobKind) (e f : Ending) (v w : Log) → t ≡ r → k ≡ o → e ≡ f → Closes h q t k e v w → Closes h q r o f v w

@@ -8,7 +8,7 @@ use Rattle.rayon_machine_places.specs.declared.place.JobKind.{JobKind}
 use Rattle.rayon_machine_places.specs.declared.place.JobKind.TheVariants.{Direct, TokenOf, WholeOf}
 use Rattle.rayon_machine_places.specs.declared.place.OpenCall.{OpenCall}
 use Rattle.rayon_machine_places.specs.declared.place.Plan.{Plan}
-use Rattle.rayon_machine_places.specs.declared.place.Plan.TheVariants.{Feed, Here}
+use Rattle.rayon_machine_places.specs.declared.place.Plan.TheVariants.{Feed, Here, Open}
 use Rattle.rayon_machine_places.specs.declared.place.Share.TheVariants.{OfJob}
 use Rattle.rayon_machine_places.specs.declared.place.Then.TheVariants.{Answers, Ran as RanSo}
 use Rattle.rayon_machine_places.specs.declared.place.Party.{Party}
@@ -16,7 +16,7 @@ use Rattle.rayon_machine_places.specs.declared.place.Move.{Move}
 use Rattle.rayon_machine_places.specs.declared.place.Move.TheVariants.{Stay, Enter, StartRun, Back, HandBack, HandIn, Discard}
 use Rattle.rayon_machine_places.specs.declared.shape.PoolShape.{PoolShape}
 use Rattle.rayon_machine_places.specs.declared.place.Place.{Place}
-use Rattle.rayon_machine_places.specs.declared.place.Place.TheVariants.{AddToFifo, AtOnce, BeginHere, FirstSide, LowerCount, RaiseCount, Run, Stopped}
+use Rattle.rayon_machine_places.specs.declared.place.Place.TheVariants.{AddToFifo, AtOnce, BeginHere, FirstSide, LowerCount, RaiseCount, Run, ScopeBody, Stopped}
 use Rattle.rayon_machine_places.specs.declared.place.Target.{Target}
 use Rattle.rayon_machine_places.specs.declared.place.Target.TheVariants.{Termination, Answer}
 use Rattle.rayon_machine_places.specs.Places.{goes_on, undo}
@@ -115,6 +115,18 @@ Met h q n e v w = Worked h q (Stay (goes_on (FirstSide (own_call n) n) e)) v w B
 -- the acts of a join whose first side ended so
 abbrev pub Joined : PoolShape → Party → Ending → Log → Log → Type 0
 Joined h q e v w = (n : ℕ) × (x : Log) × (y : Log) × Offered h q n v x × AddsRun x y × Met h q n e y w
+
+-- the acts by which a scope of this name is opened, from its Raise to the run of its body
+abbrev pub ScopeOpened : PoolShape → Party → ℕ → Log → Log → Type 0
+ScopeOpened h q n v w = Traced h q (Stay (RaiseCount (Open (own_call n)))) v w (StartRun (ScopeBody (own_call n)) n)
+
+-- the acts by which it goes on where its body ended so, to its end
+abbrev pub ScopeLeft : PoolShape → Party → ℕ → Ending → Log → Log → Type 0
+ScopeLeft h q n e v w = Worked h q (Stay (goes_on (ScopeBody (own_call n)) e)) v w Back
+
+-- the acts of a scope whose body ended so
+abbrev pub Scoped : PoolShape → Party → Ending → Log → Log → Type 0
+Scoped h q e v w = (n : ℕ) × (x : Log) × (y : Log) × ScopeOpened h q n v x × AddsRun x y × ScopeLeft h q n e y w
 
 -- the acts of an install by a worker of the pool, from its Raise to its end, whose job ended so: as far as the run, the run's
 -- beginning, the run, and on from its end

@@ -2,4 +2,5 @@ pub mod Acts
 pub mod Answers
 pub mod Joins
 pub mod Pushes
+pub mod Scopes
 pub mod Worker

@@ -18,8 +18,8 @@ pub struct Handlers<H> {
     pub exit: Option<H>,
 }
 
-// What a pool keeps of the faults of its detached jobs, and its handlers, to one of which it tells the faults in place of
-// that, if it has it. No lock is held while a handler is told.
+// What a pool keeps of the faults of its detached jobs, and its handlers, to one of which it tells the faults in place
+// of that, if it has it. No lock is held while a handler is told.
 #[derive(Drop)]
 struct Kept<F, H> {
     faults: Mutex<Faults<F>>,
@@ -55,8 +55,8 @@ impl<F: Drop, H: PoolHandler<F>> SharedFaults<F, H> {
         }
     }
 
-    // A detached job, or another handler, has ended with this fault. The panic handler is told it where there is one. Else
-    // it is kept, and where it is not the first it is let go once the lock is given back.
+    // A detached job, or another handler, has ended with this fault. The panic handler is told it where there is one.
+    // Else it is kept, and where it is not the first it is let go once the lock is given back.
     pub(crate) fn keep<R: Wait>(&self, rt: &R, fault: F) {
         match &self.kept.handlers.panic {
             Some(handler) => handler.panicked(rt, fault),

@@ -14,11 +14,13 @@ ghost use Rattle.rayon_registry.specs.Joins.{joins_by};
 ghost use Rattle.rayon_registry.specs.Answers.{joined, JoinAnswers};
 ghost use Rattle.rayon_registry.specs.Worker.{EndedCall, Kept, SameWorker};
 ghost use Rattle.rayon_tasks.specs.Tasks.{HasJob, OneJob};
+ghost use Rattle.rayon_tasks.specs.Tickets.{call_in};
 ghost use Rattle.std.specs.Prelude.{◌≡◌, ◌⊎◌, ℕ, ◌≤◌, ◌<◌, [], ◌∷◌, ◌++◌, ◌+◌, ◌-◌, ◌==◌, Bool, Result, Ok, Err, IfOk, IfErr, MatchResult, suc, true, false};
 
 use crate::answers::join_answer;
-use crate::context::{Context, FnContext, Scope};
+use crate::context::{Context, FnContext};
 use crate::job::Waits;
+use crate::scope::Scope;
 use crate::worker_thread::{Lent, WorkerThread};
 use rayon_jobs::{Done, JobKind, Lost, claimed};
 use rayon_machine_places::place::{Ending, OpenCall, Target, Then};
@@ -44,14 +46,27 @@ impl<J: JobKind> Model for PairRun<J> {
     ghost view = { λ p. record { first = p.first; second = p.second } };
 }
 
-/// A second side that was pushed. It has no `Drop`: the join has to be finished.
+/// A second side that was pushed. It has no `Drop`: the join has to be finished. By its type its ticket answers for its
+/// own name, and for no scope's.
 pub struct Fork<J: JobKind> {
     call: Call<J>,
     tag: J::Tag,
 }
 
-/// A second side that was pushed, and what the worker value had before it was lent to the first side, a closure. It has no
-/// `Drop` either.
+impl<J: JobKind> Model for Fork<J> {
+    ghost use Rattle.rayon_registry.specs.Worker.{ForkOf};
+    ghost use Rattle.rayon_tasks.specs.Tickets.{call_in};
+    ghost use Rattle.std.specs.Prelude.{◌≡◌};
+
+    ghost Value = { ForkOf J.Tag };
+
+    ghost view = { λ f. record { ticket = f.call.ticket; tag = f.tag } };
+
+    ghost invariant = { λ f. call_in f.call.ticket ≡ f.call.ticket.number };
+}
+
+/// A second side that was pushed, and what the worker value had before it was lent to the first side, a closure. It has
+/// no `Drop` either.
 pub struct ClosureFork<J: JobKind> {
     fork: Fork<J>,
     lent: Lent,
@@ -104,14 +119,14 @@ impl<J: JobKind> WorkerThread<J> {
         injected: bool,
     ) -> Result<Fork<J>, (Refusal, J)>
         ensures forked { IfOk result (λ f. (f.tag ≡ J.tag_of b) × (0 < self.old.levels)) }
-        ensures pushed { IfOk result (λ f. self.new ≡ record self.old { pushed = self.old.pushed ++ record { work = OneJob b; injected = injected; ticket = f.call.ticket } ∷ []; left = self.old.left ++ record { work = OneJob b; injected = injected; ticket = f.call.ticket } ∷ []; units = self.old.units + 1; count = self.new.count; acts = self.new.acts }) }
+        ensures pushed { IfOk result (λ f. self.new ≡ record self.old { pushed = self.old.pushed ++ record { work = OneJob b; injected = injected; ticket = f.ticket } ∷ []; left = self.old.left ++ record { work = OneJob b; injected = injected; ticket = f.ticket } ∷ []; units = self.old.units + 1; count = self.new.count; acts = self.new.acts }) }
         ensures unit { IfOk result (λ _. TakesUnit (self.old.units == 0) self.old.count self.new.count) }
         ensures back { IfErr result (λ e. e.1 ≡ b) }
         ensures kept { IfErr result (λ _. Kept self.old self.new) }
         ensures deep { self.old.levels ≡ 0 → result ≡ Err (Refusal.TooDeep, b) }
         ensures shallow { IfErr result (λ e. e.0 ≡ Refusal.TooDeep → self.old.levels ≡ 0) }
         ensures path { MatchResult result
-            (λ f. Offered self.old.shape (Worker 0 self.old.seat) f.call.ticket.number self.old.acts self.new.acts)
+            (λ f. Offered self.old.shape (Worker 0 self.old.seat) f.ticket.number self.old.acts self.new.acts)
             (λ _. HandedBack self.old.shape (Worker 0 self.old.seat) own_join self.old.acts self.new.acts) }
     {
         if self.levels == 0 {
@@ -137,6 +152,7 @@ impl<J: JobKind> WorkerThread<J> {
     ) -> Result<Result<J::Output, J::Fault>, Lost>
         requires some { 0 < self.old.levels }
         requires levels { self.old.levels ≤ R.levels rt.now }
+        requires ticket { call_in held.ticket ≡ held.ticket.number }
         ensures ok { IfOk result (λ r. J.answers tag.now r) }
         ensures ended { EndedCall self.old self.new }
         ensures path { Met self.old.shape (Worker 0 self.old.seat) held.ticket.number (ended_so first_faulted) self.old.acts self.new.acts }
@@ -172,7 +188,7 @@ impl<J: JobKind> WorkerThread<J> {
     ) -> Result<Result<J::Output, J::Fault>, Lost>
         requires some { 0 < self.old.levels }
         requires levels { self.old.levels ≤ R.levels rt.now }
-        requires ticket { held.ticket.number ≡ call.number }
+        requires ticket { call_in held.ticket ≡ call.number }
         requires pool { call.pool ≡ 0 }
         ensures ok { IfOk result (λ r. J.answers tag.now r) }
         ensures ended { EndedCall self.old self.new }
@@ -206,7 +222,8 @@ impl<J: JobKind> WorkerThread<J> {
         unreachable!()
     }
 
-    // Runs the own second side, which was taken back, gives the unit of the terminate count back, and claims the result.
+    // Runs the own second side, which was taken back, gives the unit of the terminate count back, and claims the
+    // result.
     #[inline(always)]
     #[tactic(auto, unfolding(crate::specs::Pushes::units_of, crate::specs::Pushes::shape_at, crate::specs::Pushes::seat_of, crate::specs::Pushes::acts_of))]
     fn run_second<R: Waits<J>>(
@@ -261,7 +278,7 @@ impl<J: JobKind> WorkerThread<J> {
         let (work, injected, share) = task_parts(task);
         self.bench.keep_call(alloc, share);
         self.bench.begin_here(name);
-        let (done, first) = self.run_work(rt, alloc, work, injected);
+        let (done, first) = self.run_work(rt, alloc, work, FnContext::new(injected));
         if let Some((ticket, done)) = first {
             ticket.store(rt, done);
         }
@@ -421,11 +438,11 @@ impl<J: JobKind> Sides<J> for WorkerThread<J> {
 
     ghost joined = { λ e v w. Joined v.shape (Worker 0 v.seat) e v.acts w.acts };
 
-    ghost offered = { λ v f. Offered v.shape (Worker 0 v.seat) f.fork.call.ticket.number v.acts f.lent.acts };
+    ghost offered = { λ v f. Offered v.shape (Worker 0 v.seat) f.fork.ticket.number v.acts f.lent.acts };
 
-    ghost met = { λ e f w. (x : Log) × AddsRun f.lent.acts x × Met w.shape (Worker 0 w.seat) f.fork.call.ticket.number e x w.acts };
+    ghost met = { λ e f w. (x : Log) × AddsRun f.lent.acts x × Met w.shape (Worker 0 w.seat) f.fork.ticket.number e x w.acts };
 
-    ghost joins = { λ e v w f same a b. joins_by e v w f.fork.call.ticket.number f.lent.acts same a b };
+    ghost joins = { λ e v w f same a b. joins_by e v w f.fork.ticket.number f.lent.acts same a b };
 
     ghost fork_tag = { λ f. f.fork.tag };
 

@@ -10,15 +10,17 @@ mod join;
 mod level;
 mod pool_parts;
 mod pool_ref;
+mod scope;
 mod thread_builder;
 mod worker_thread;
 
-pub use context::{BroadcastContext, Context, FnContext, PieceContext, Scope};
+pub use context::{BroadcastContext, Context, FnContext, PieceContext};
 pub use faults::{Handlers, SharedFaults};
 pub use ids::{IdSource, Ids, PoolId, WorkerId};
 pub use job::{Job, Waits};
 pub use join::{ForkJoin, PairRun};
 pub use pool_parts::{end_pool, faults_of, new_pool, shared_of};
 pub use pool_ref::PoolRef;
+pub use scope::{Scope, ScopeCalls};
 pub use thread_builder::ThreadBuilder;
 pub use worker_thread::WorkerThread;

@@ -14,9 +14,9 @@ use std::sync::{Arc, Wait};
 
 /// A pool of so many workers, none of which runs yet; what each worker begins with by index; and the unit of the
 /// terminate count that the pool's value holds. A `depth_limit` of 0 counts as 1; `steal_seed` is added to each
-/// worker's index for the seed of its choice of victims; `breadth_first` has each worker take the oldest task of its own
-/// deque first; `handlers` are told what is theirs, and the faults of detached jobs are kept where `panic` of them is
-/// None. Refused `NoRoom`.
+/// worker's index for the seed of its choice of victims; `breadth_first` has each worker take the oldest task of its
+/// own deque first; `handlers` are told what is theirs, and the faults of detached jobs are kept where `panic` of them
+/// is None. Refused `NoRoom`.
 pub fn new_pool<J: JobKind, R: Wait>(
     rt: &R,
     alloc: Global,
@@ -69,8 +69,8 @@ pub fn faults_of<J: JobKind>(
     pool.faults.share()
 }
 
-/// Gives back the unit of the terminate count that this pool's value holds. Where it was the last one, the workers leave
-/// their loops.
+/// Gives back the unit of the terminate count that this pool's value holds. Where it was the last one, the workers
+/// leave their loops.
 pub fn end_pool<J: JobKind, R: Wait>(rt: &R, pool: &PoolRef<J>, hold: PoolHold)
     requires { hold ≡ pool.now.count }
 {

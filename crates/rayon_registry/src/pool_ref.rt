@@ -18,8 +18,8 @@ use std::alloc::Global;
 use std::marker::Model;
 use std::sync::{Arc, Wait};
 
-// A pool's number, and a share of what its threads have in common, where its queues hold such tasks. It stands apart from
-// the job type, so that the checker finds once that it may be sent where its tasks may be.
+// A pool's number, and a share of what its threads have in common, where its queues hold such tasks. It stands apart
+// from the job type, so that the checker finds once that it may be sent where its tasks may be.
 #[derive(Drop)]
 pub(crate) struct PoolShare<T> {
     pub(crate) id: PoolId,
@@ -114,8 +114,8 @@ impl<J: JobKind> PoolRef<J> {
     }
 
     /// Spawns a detached job on the pool, for a caller that is no worker, and waits for nothing. The job keeps the pool
-    /// from ending until its run is over. Nobody is answered its output; its fault goes to the pool's handler, or is kept
-    /// for `take_fault` where it has none. Refused `Full`, `NoRoom`, `Ended`, with the job back.
+    /// from ending until its run is over. Nobody is answered its output; its fault goes to the pool's handler, or is
+    /// kept for `take_fault` where it has none. Refused `Full`, `NoRoom`, `Ended`, with the job back.
     pub fn spawn<R: Wait>(&self, rt: &R, alloc: Global, job: J) -> Result<(), (Refusal, J)>
         ensures back { IfErr result (λ e. e.1 ≡ job) }
         ensures refused { IfErr result (λ e. (e.0 ≡ Refusal.Ended) ⊎ ((e.0 ≡ Refusal.Full) ⊎ (e.0 ≡ Refusal.NoRoom))) }

@@ -65,9 +65,9 @@ impl<J: JobKind> ThreadBuilder<J> {
         self.index
     }
 
-    /// Tells the pool's start handler, where it has one; then the worker's loop: runs what is queued, sleeps where nothing
-    /// is, and ends when the pool has ended; at last tells the pool's exit handler. A handler's fault goes where that of
-    /// a detached job goes, and keeps nothing else from being done.
+    /// Tells the pool's start handler, where it has one; then the worker's loop: runs what is queued, sleeps where
+    /// nothing is, and ends when the pool has ended; at last tells the pool's exit handler. A handler's fault goes
+    /// where that of a detached job goes, and keeps nothing else from being done.
     pub fn run<R: Wait>(self, rt: &R, alloc: Global)
     where
         J: Job,

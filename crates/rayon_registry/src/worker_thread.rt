@@ -45,8 +45,8 @@ use std::marker::Model;
 use std::sync::Wait;
 
 /// A worker of a pool, lent to each run. Contracts see whose it is, the levels that are left, the tasks that it pushed,
-/// those of them that it did not take back, the units of the terminate count that its calls hold, its seat of that count, and
-/// the acts that it made since it was lent.
+/// those of them that it did not take back, the units of the terminate count that its calls hold, its seat of that
+/// count, and the acts that it made since it was lent.
 #[derive(Drop)]
 pub struct WorkerThread<J: JobKind> {
     pub(crate) id: WorkerId,
@@ -241,10 +241,10 @@ impl<J: JobKind> WorkerThread<J> {
         }
     }
 
-    /// Puts a task last into the worker's own FIFO list, and a token last into its own deque, and wakes whom that owes a
-    /// wake: who takes the token runs the first job of the list, as with `spawn_fifo`. A task that is a token itself has its
-    /// job in a list already, and is pushed as by `push`. Refused `Full`, `NoRoom`, with the task back and nothing added. It
-    /// raises no count: a task that was taken has what it needs.
+    /// Puts a task last into the worker's own FIFO list, and a token last into its own deque, and wakes whom that owes
+    /// a wake: who takes the token runs the first job of the list, as with `spawn_fifo`. A task that is a token itself
+    /// has its job in a list already, and is pushed as by `push`. Refused `Full`, `NoRoom`, with the task back and
+    /// nothing added. It raises no count: a task that was taken has what it needs.
     #[tactic(auto, unfolding(crate::specs::Pushes::pushed_by, crate::specs::Pushes::left_to, crate::specs::Pushes::takes_oldest, crate::specs::Pushes::units_of, crate::specs::Pushes::count_of, crate::specs::Pushes::shape_at, crate::specs::Pushes::seat_of, crate::specs::Pushes::acts_of, crate::specs::Pushes::saw_set))]
     pub fn push_fifo<R: Wait>(
         &mut self,
@@ -453,12 +453,13 @@ impl<J: JobKind> WorkerThread<J> {
         let kind = task.kind();
         let migrated = task.injected() || !task.owner().is_worker(0, self.id.index);
         let (work, _injected, ticket) = task_parts(task);
-        let (done, first) = self.run_work(rt, alloc, work, migrated);
+        let context = FnContext::in_scope(migrated, self.scope_of(alloc, &ticket));
+        let (done, first) = self.run_work(rt, alloc, work, context);
         self.end_run(rt, kind, ticket, done, first);
     }
 
-    // The run of this ticket's job, of this kind, has ended so. A detached job's fault is told to the pool's handler, or
-    // kept, before its unit of the terminate count is given back; a call that waits for the job is told.
+    // The run of this ticket's job, of this kind, has ended so. A detached job's fault is told to the pool's handler,
+    // or kept, before its unit of the terminate count is given back; a call that waits for the job is told.
     #[tactic(auto, unfolding(crate::specs::Pushes::units_of, crate::specs::Pushes::count_of, crate::specs::Pushes::shape_at, crate::specs::Pushes::seat_of, crate::specs::Pushes::acts_of))]
     fn end_run<R: Wait>(
         &mut self,
@@ -492,7 +493,7 @@ impl<J: JobKind> WorkerThread<J> {
         rt: &R,
         alloc: Global,
         work: Work<J>,
-        migrated: bool,
+        context: FnContext<J>,
     ) -> (Done<J>, Option<(Ticket<J>, Done<J>)>)
         requires some { 0 < self.old.levels }
         requires levels { self.old.levels ≤ R.levels rt.now }
@@ -500,8 +501,9 @@ impl<J: JobKind> WorkerThread<J> {
         ensures same { SameWorker self.old self.new }
         ensures acts { AddsRun self.old.acts self.new.acts }
     {
+        let mut context = context;
         match work {
-            Work::Job(job) => (self.run_to_done(rt, alloc, job, migrated), None),
+            Work::Job(job) => (self.run_told(rt, alloc, job, &mut context), None),
             Work::Pair(pair) => self.run_sides(rt, alloc, pair),
             Work::Token => unreachable!(),
         }
@@ -541,7 +543,7 @@ impl<J: JobKind> WorkerThread<J> {
         }
     }
 
-    // Runs a job, and puts its result beside its tag.
+    // Runs a job of no scope, and puts its result beside its tag.
     #[inline(always)]
     pub(crate) fn run_to_done<R: Waits<J>>(
         &mut self,
@@ -558,8 +560,28 @@ impl<J: JobKind> WorkerThread<J> {
         ensures same { SameWorker self.old self.new }
         ensures acts { AddsRun self.old.acts self.new.acts }
     {
+        self.run_told(rt, alloc, job, &mut FnContext::new(migrated))
+    }
+
+    // Runs a job, which is told this, and puts its result beside its tag.
+    #[inline(always)]
+    fn run_told<R: Waits<J>>(
+        &mut self,
+        rt: &R,
+        alloc: Global,
+        job: J,
+        context: &mut FnContext<J>,
+    ) -> Done<J>
+        requires some { 0 < self.old.levels }
+        requires levels { self.old.levels ≤ R.levels rt.now }
+        ensures tag { result.tag ≡ J.tag_of job }
+        ensures place { result.place ≡ None }
+        ensures lent { J.answers_at job (self.old.levels - 1) context.old.migrated result.answer }
+        ensures same { SameWorker self.old self.new }
+        ensures acts { AddsRun self.old.acts self.new.acts }
+    {
         let tag = job.tag();
-        let answer = rt.run_job(alloc, self, job, &mut FnContext::new(migrated));
+        let answer = rt.run_job(alloc, self, job, context);
         Done::of_run(tag, answer)
     }
 }

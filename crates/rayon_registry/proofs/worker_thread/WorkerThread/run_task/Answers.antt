@@ -1,4 +1,4 @@
-use Rattle.std.proofs.Common.{◌≡◌, refl, rules, sym, subst}
+use Rattle.std.proofs.Common.{◌≡◌, rules, subst}
 use Rattle.rayon_registry.proofs.Made.{closes_as}
 use Rattle.rayon_jobs.specs.Endings.{ending_of}
 use Rattle.rayon_machine_places.specs.declared.place.JobKind.{JobKind}

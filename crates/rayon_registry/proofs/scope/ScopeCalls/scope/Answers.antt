@@ -1,0 +1,12 @@
+use Rattle.std.proofs.Common.{inl, inr}
+use Rattle.std.proofs.lemmas.Result.{IfOk-weaker}
+use Rattle.rayon_registry.proofs.scope.ScopeCalls.scope.Goals as goal
+
+pub returns-clause-ok : goal.returns-clause-ok
+returns-clause-ok g c = IfOk-weaker c.scope_answer.result _ _ (λ e h. (_, _, _, _, c.in-Ok.ensures.opened.0, c.in-Ok.ensures.opened.1, rw h.0 at c.body-answer.ensures, rw h.1 at c.end_scope-ended.ensures.met)) c.scope_answer.ensures.ok
+
+pub returns-clause-fault : goal.returns-clause-fault
+returns-clause-fault g c f e = elim (c.scope_answer.ensures.fault f e) [
+  | inl p ↦ inl (_, _, _, _, rw p at c.body-answer.ensures)
+  | inr q ↦ inr (rw q at c.end_scope-ended.ensures.fault)
+]

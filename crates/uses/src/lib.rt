@@ -5,6 +5,7 @@ pub mod closure;
 pub mod global;
 pub mod migrated;
 pub mod pools;
+pub mod scopes;
 pub mod server;
 pub mod sort;
 pub mod sum;

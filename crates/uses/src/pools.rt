@@ -1,6 +1,7 @@
 //! How a pool is made for each feature, lent and ended.
 ghost use Rattle.std.specs.Prelude.{◌≡◌, IfOk, false};
 
+use crate::closure::Ask;
 use crate::global::halves;
 use crate::migrated::Tell;
 use crate::server::serve;
@@ -93,6 +94,20 @@ fn first_sides<R: Threads + Wait + Copy + Send + 'static>(
     Ok((job, closure))
 }
 
+// Twice the sum of 2, 3 and 6.
+fn twice_the_sum<R: Threads + Wait + Copy + Send + 'static>(
+    rt: &R,
+    alloc: Global,
+    ids: &Ids,
+) -> anyhow::Result<u32>
+    ensures { IfOk result (λ v. v ≡ 22) }
+{
+    let pool = ThreadPoolBuilder::new().build(rt, alloc, ids)?;
+    let sum = pool.install(rt, alloc, Ask::Doubles(2, 3, 6));
+    pool.end_and_join(rt);
+    Ok(sum.map_err(CallError::without_sides)?)
+}
+
 /// Makes each of these pools in turn, and prints what came of it.
 pub fn print_all<R: Runtime + Threads + Wait + Copy + Send + 'static>(
     rt: &R,
@@ -109,6 +124,8 @@ pub fn print_all<R: Runtime + Threads + Wait + Copy + Send + 'static>(
     println!(rt; "triples: {triples:?}")?;
     let (job, closure) = first_sides(rt, alloc, &ids)?;
     println!(rt; "migrated: {job} {closure}")?;
+    let doubled = twice_the_sum(rt, alloc, &ids)?;
+    println!(rt; "doubled: {doubled}")?;
     let (left, right) = halves(rt, alloc)?;
     println!(rt; "halves: {left} + {right}")?;
     let batch = [1, 2, 3, u32::MAX, 4, 5, u32::MAX, 6];

@@ -1,7 +1,8 @@
 //! The jobs of the tests.
 ghost use Rattle.std.specs.Prelude.{◌≡◌, ℕ};
 
-use crate::hands;
+use crate::scope_parts::Part;
+use crate::{hands, scope_parts};
 use rayon_core::{
     BroadcastContext, CallError, FnContext, Job, JobKind, PoolHandler, Refusal, Waits, WorkerId,
     WorkerThread,
@@ -168,6 +169,8 @@ pub enum Deed {
     Chain(u64),
     /// Spawns four jobs that fault with this digit, two of them in order, and faults with it.
     FaultByFive(u64),
+    /// Does this with scopes.
+    Scope(Part),
 }
 
 /// A job: its name, which is its tag, where it leaves its marks, and what it does.
@@ -214,7 +217,7 @@ impl Job for Errand {
         rt: &R,
         alloc: Global,
         w: &mut WorkerThread<Self>,
-        _ctx: &mut FnContext<Self>,
+        ctx: &mut FnContext<Self>,
     ) -> Result<u64, Trouble> {
         let Errand {
             name: _,
@@ -234,6 +237,7 @@ impl Job for Errand {
                 marks.note(digit);
                 Ok(digit)
             }
+            Deed::Scope(part) => scope_parts::run(rt, alloc, w, ctx, &marks, part),
             deed => hands::run(rt, alloc, w, &marks, deed),
         }
     }

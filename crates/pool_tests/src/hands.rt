@@ -67,7 +67,9 @@ pub fn run<R: Waits<Errand>>(
             join(rt, alloc, w, marks, below, Deed::End(Ok(1)))
         }
         Deed::FaultByFive(digit) => fault_by_five(rt, alloc, w, marks, digit),
-        Deed::End(_) | Deed::IsOn(_) | Deed::Note(_) | Deed::NoteLate(_) => Err(Trouble::Unlike),
+        Deed::End(_) | Deed::IsOn(_) | Deed::Note(_) | Deed::NoteLate(_) | Deed::Scope(_) => Err(
+            Trouble::Unlike,
+        ),
     }
 }
 

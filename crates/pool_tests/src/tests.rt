@@ -23,8 +23,8 @@ pub fn pool_of<R: Threads + Wait + Abort + Copy + Send + 'static>(
     builder.build(rt, alloc, &Ids::new()).expect(rt, "a pool")
 }
 
-// What an install of a job that does this gave, how many runs it began, and the digits that were noted.
-fn installed<R: Wait + Abort>(
+/// What an install of a job that does this gave, how many runs it began, and the digits that were noted.
+pub fn installed<R: Wait + Abort>(
     rt: &R,
     alloc: Global,
     pool: &ThreadPool<Errand>,

@@ -1,5 +1,5 @@
 -- What a spawn in order does.
-use Rattle.std.specs.Prelude.{◌≡◌, ◌⊎◌, ℕ, false, true}
+use Rattle.std.specs.Prelude.{◌≡◌, ◌⊎◌, ℕ, false, true, None}
 use Rattle.rayon_machine_places.specs.declared.place.Count.TheVariants.{OfPool}
 use Rattle.rayon_machine_places.specs.declared.place.Feeding.{Feeding}
 use Rattle.rayon_machine_places.specs.declared.place.Move.TheVariants.{Back, HandBack, Stay}
@@ -7,10 +7,11 @@ use Rattle.rayon_machine_places.specs.declared.place.Party.{Party}
 use Rattle.rayon_machine_places.specs.declared.place.Place.TheVariants.{RaiseCount}
 use Rattle.rayon_machine_places.specs.declared.place.Plan.TheVariants.{Feed}
 use Rattle.rayon_machine_places.specs.declared.shape.PoolShape.{PoolShape}
+use Rattle.rayon_machine_places.specs.Places.{own_index}
 use Rattle.rayon_drive.specs.declared.trace.Log.{Log}
 use Rattle.rayon_drive.specs.Paths.{Traced}
 use Rattle.rayon_tasks.specs.Tasks.{NoJob, TaskOf}
-use Rattle.rayon_tasks.specs.Tickets.{TicketOf, unscoped}
+use Rattle.rayon_tasks.specs.Tickets.{TicketOf}
 use Rattle.rayon_performers.specs.Hands.{Hands}
 use Rattle.rayon_performers.specs.Paths.{WorkerGoes}
 use Rattle.rayon_performers.specs.Spawns.{with_units}
@@ -23,9 +24,13 @@ feeding n k = record { count = OfPool 0; pool = 0; job = n; token = k }
 abbrev pub token_with : {X : Type 0} → TicketOf → TaskOf X
 token_with u = record { work = NoJob; injected = false; ticket = u }
 
--- the token of this name, which stands for a job of the FIFO list of this party
+-- the ticket of a token of this name, which stands for a job of this party's FIFO list of detached jobs
+abbrev pub list_ticket : Party → ℕ → TicketOf
+list_ticket q k = record { owner = q; number = k; detached = true; scope = None; slot = own_index q }
+
+-- the token of this name, which stands for a job of this party's FIFO list of detached jobs
 abbrev pub token_task : {X : Type 0} → Party → ℕ → TaskOf X
-token_task q k = token_with (unscoped q k true)
+token_task q k = token_with (list_ticket q k)
 
 -- the acts of a spawn in order of the job and the token of these names, from its Raise to its end
 abbrev pub Fed : PoolShape → Party → ℕ → ℕ → Log → Log → Type 0

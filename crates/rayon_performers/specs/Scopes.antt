@@ -1,16 +1,19 @@
 -- What a spawn into a scope does.
 use Rattle.std.specs.Prelude.{◌≡◌, ◌⊎◌, ℕ, false, Option}
+use Rattle.rayon_machine_places.specs.declared.place.Count.TheVariants.{OfScope}
 use Rattle.rayon_machine_places.specs.declared.place.Entry.{Entry}
+use Rattle.rayon_machine_places.specs.declared.place.Feeding.{Feeding}
 use Rattle.rayon_machine_places.specs.declared.place.Move.TheVariants.{Back, HandBack, Stay}
 use Rattle.rayon_machine_places.specs.declared.place.Party.{Party}
 use Rattle.rayon_machine_places.specs.declared.place.Place.TheVariants.{RaiseCount}
 use Rattle.rayon_machine_places.specs.declared.place.Plan.{Plan}
-use Rattle.rayon_machine_places.specs.declared.place.Plan.TheVariants.{Enter}
+use Rattle.rayon_machine_places.specs.declared.place.Plan.TheVariants.{Enter, Feed}
 use Rattle.rayon_machine_places.specs.declared.shape.PoolShape.{PoolShape}
 use Rattle.rayon_drive.specs.declared.trace.Log.{Log}
 use Rattle.rayon_drive.specs.Paths.{Traced}
 use Rattle.rayon_tasks.specs.Tasks.{OneJob, TaskOf}
 use Rattle.rayon_tasks.specs.Tickets.{TicketOf}
+use Rattle.rayon_performers.specs.Fifos.{token_with}
 use Rattle.rayon_performers.specs.Hands.{Hands}
 use Rattle.rayon_performers.specs.Paths.{WorkerGoes}
 
@@ -30,6 +33,18 @@ Entered h q c o n v w = Traced h q (Stay (RaiseCount (entering c o n))) v w Back
 abbrev pub entered_task : {X : Type 0} → X → TicketOf → ℕ → ℕ → TaskOf X
 entered_task j u n k = record { work = OneJob j; injected = false; ticket = record u { number = n; slot = k } }
 
+-- the spawn in order of a job into a scope, with a token of this name
+abbrev pub into : Entry → ℕ → Feeding
+into e k = record { count = OfScope e.call e.owner; pool = 0; job = e.job; token = k }
+
+-- the acts of such a spawn, from its Raise to its end
+abbrev pub EnteredInOrder : PoolShape → Party → Entry → ℕ → Log → Log → Type 0
+EnteredInOrder h q e k v w = Traced h q (Stay (RaiseCount (Feed (into e k)))) v w Back
+
+-- the token of this name, which stands for a job of the scope that this ticket is of, in the list of the worker of this index
+abbrev pub scope_token : {X : Type 0} → TicketOf → ℕ → ℕ → TaskOf X
+scope_token u i k = token_with (record u { number = k; slot = i })
+
 module _ {X G O F : Type 0} where
   -- the same worker, where this ticket stands for the one that it is to answer: that of a scope, while it spawns into it
   abbrev pub answering : Option TicketOf → Hands X G O F → Hands X G O F
@@ -42,3 +57,11 @@ module _ {X G O F : Type 0} where
   -- such a spawn was refused: before its Raise, when nothing was done, or from there to where it hands its job back
   abbrev pub EntersNone : Option TicketOf → ℕ → Party → ℕ → Hands X G O F → Hands X G O F → Type 0
   EntersNone k c o n s t = (t ≡ s) ⊎ WorkerGoes (Stay (RaiseCount (entering c o n))) (answering k s) (answering k t) (HandBack (entering c o n))
+
+  -- a worker spawned the job in order into the scope, with a token of this name, from its Raise to its end
+  abbrev pub EntersList : Option TicketOf → Entry → ℕ → Hands X G O F → Hands X G O F → Type 0
+  EntersList r e k s t = WorkerGoes (Stay (RaiseCount (Feed (into e k)))) (answering r s) (answering r t) Back
+
+  -- such a spawn was refused: before its Raise, when nothing was done, or from there to where it hands its job back
+  abbrev pub EntersNoList : Option TicketOf → Entry → ℕ → Hands X G O F → Hands X G O F → Type 0
+  EntersNoList r e k s t = (t ≡ s) ⊎ WorkerGoes (Stay (RaiseCount (Feed (into e k)))) (answering r s) (answering r t) (HandBack (Feed (into e k)))

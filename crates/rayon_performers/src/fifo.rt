@@ -1,21 +1,22 @@
-//! A worker's detached jobs in order. Each lies in the FIFO list of the worker that spawned it, and for each a token
-//! lies in a deque: who takes a token begins the first job of its list, which may be another than the one that it was
-//! pushed for.
-ghost use Rattle.std.specs.Prelude.{◌≡◌, ◌⊎◌, ◌+◌, ◌==◌, ◌++◌, [], ◌∷◌, true, IfErr, IfSome, MatchResult};
+//! A worker's jobs in order, detached ones and those of scopes. Each lies in a FIFO list of the worker that spawned it,
+//! one for its scope or that of detached jobs, and for each a token lies in a deque: who takes a token begins the first
+//! job of its list, which may be another than the one that it was pushed for.
+ghost use Rattle.std.specs.Prelude.{◌≡◌, ◌⊎◌, ◌+◌, ◌==◌, ◌++◌, [], ◌∷◌, IfErr, IfOk, IfSome, MatchResult, Some, true};
 ghost use Rattle.rayon_drive.specs.Traces.{Adds};
-ghost use Rattle.rayon_machine_places.specs.Places.{undo};
+ghost use Rattle.rayon_machine_places.specs.Places.{after_push, count_book, undo};
 ghost use Rattle.rayon_machine_places.specs.declared.act.Act.TheVariants as acts;
 ghost use Rattle.rayon_machine_places.specs.declared.place.Move.TheVariants.{Back, HandBack, Stay};
 ghost use Rattle.rayon_machine_places.specs.declared.place.Party.TheVariants.{Worker};
 ghost use Rattle.rayon_machine_places.specs.declared.place.Place.TheVariants as at;
 ghost use Rattle.rayon_machine_places.specs.declared.place.Plan.TheVariants.{Detach, Feed};
-ghost use Rattle.rayon_performers.specs.Fifos.{FeedsList, FeedsNone, feeding, token_task, token_with};
+ghost use Rattle.rayon_performers.specs.Fifos.{FeedsList, FeedsNone, feeding, list_ticket, token_task, token_with};
 ghost use Rattle.rayon_performers.specs.Finds.{StandsLast};
-ghost use Rattle.rayon_performers.specs.Hands.{Does};
+ghost use Rattle.rayon_performers.specs.Hands.{Does, OfList};
 ghost use Rattle.rayon_performers.specs.Marks.{KeepsUnits, TakesUnit};
 ghost use Rattle.rayon_performers.specs.Paths.{WorkerGoes};
 ghost use Rattle.rayon_performers.specs.Seats.{Resting};
 ghost use Rattle.rayon_queues.specs.Deques.{SameDeque, Unmoved};
+ghost use Rattle.rayon_queues.specs.Lists.{Becomes, SameLists, jobs_of};
 ghost use Rattle.rayon_tasks.specs.Tasks.{HasJob, taken_in};
 ghost use Rattle.rayon_machine_places.specs.declared.place.Taken.TheVariants.{Plain};
 
@@ -24,7 +25,7 @@ use crate::stretch::only_job;
 use rayon_jobs::JobKind;
 use rayon_machine_places::act::{Act, Seen};
 use rayon_machine_places::place::{Count, Feeding, Plan, Then};
-use rayon_queues::JobFifo;
+use rayon_queues::JobFifos;
 use rayon_tasks::{Task, Ticket, task_of_job, token_of};
 use rayon_words::Refusal;
 use std::alloc::Global;
@@ -70,7 +71,7 @@ impl<J: JobKind> Bench<J> {
             Ok(ticket) => ticket,
             Err(refusal) => return Err((refusal, job)),
         };
-        let share = match self.ticket_of_detached(alloc, token) {
+        let share = match self.ticket_of_token(alloc, token) {
             Ok(share) => share,
             Err(refusal) => return Err((refusal, job)),
         };
@@ -108,11 +109,21 @@ impl<J: JobKind> Bench<J> {
         ensures rests { Resting self.new.chair }
     {
         let name = task.number();
-        let ticket = match self.ticket_of_detached(alloc, token) {
+        let ticket = match self.ticket_of_token(alloc, token) {
             Ok(ticket) => ticket,
             Err(_) => return Err(task),
         };
         self.feed(rt, name, task, ticket)
+    }
+
+    // The ticket of a token of this name, which stands for the own FIFO list of detached jobs. Refused `NoRoom`.
+    fn ticket_of_token(&mut self, alloc: Global, token: u64) -> Result<Ticket<J>, Refusal>
+        ensures same { self.new ≡ self.old }
+        ensures ticket { IfOk result (λ t. t ≡ list_ticket (Worker 0 self.old.index) token) }
+        ensures refused { IfErr result (λ r. r ≡ Refusal.NoRoom) }
+    {
+        let ticket = self.ticket_of_detached(alloc, token)?;
+        Ok(ticket.numbered(self.index as u64))
     }
 
     // Takes a unit of the terminate count for the job of this name, by the units at hand, adds it last to the own FIFO
@@ -173,73 +184,80 @@ impl<J: JobKind> Bench<J> {
         ensures rests { Resting self.new.chair }
     {
         let token = share.number();
-        let mut list = self.hold_list(rt);
-        let listed = self.enlist(&mut list, name, task, share);
-        self.leave_list(rt, list);
-        let was_empty = listed?;
-        self.tell_pushed(rt, token, was_empty);
-        Ok(())
+        let mut lists = self.hold_lists(rt);
+        let listed = self.enlist(&mut lists, feeding_of(name, token), task, share);
+        self.leave_lists(rt, lists);
+        match listed {
+            Ok(was_empty) => {
+                self.tell_pushed(rt, token, was_empty);
+                Ok(())
+            }
+            Err(task) => Err(task),
+        }
     }
 
-    // Adds a task last to the own FIFO list, which the worker holds, and pushes its token, which is this ticket's.
-    // Answers whether the deque was empty before. Where there is no room for one of the two the task comes back, out
-    // of the list again.
-    fn enlist(
+    // Adds a task last to the own FIFO list that it is fed to, of those which the worker holds, and pushes its token,
+    // which is this ticket's. Answers whether the deque was empty before. Where there is no room for one of the two the
+    // task comes back, out of the list again.
+    pub(crate) fn enlist(
         &mut self,
-        list: &mut JobFifo<Task<J>>,
-        name: u64,
+        lists: &mut JobFifos<Task<J>>,
+        feeding: Feeding,
         task: Task<J>,
         share: Ticket<J>,
     ) -> Result<bool, Task<J>>
-        requires name { taken_in task ≡ Plain name }
+        requires name { taken_in task ≡ Plain feeding.job }
+        requires token { share.number ≡ feeding.token }
         ensures path { MatchResult result
-            (λ was_empty. WorkerGoes (Stay (at.AddToFifo (feeding name share.number))) self.old self.new (Stay (at.TellNews (Detach 0 share.number) was_empty)))
-            (λ _. WorkerGoes (Stay (at.AddToFifo (feeding name share.number))) self.old self.new (Stay (undo (Feed (feeding name share.number))))) }
-        ensures listed { MatchResult result (λ _. list.new ≡ list.old ++ task ∷ []) (λ back. (back ≡ task) × (list.new ≡ list.old)) }
+            (λ was_empty. WorkerGoes (Stay (at.AddToFifo feeding)) self.old self.new (Stay (at.TellNews (Detach feeding.pool feeding.token) was_empty)))
+            (λ _. WorkerGoes (Stay (at.AddToFifo feeding)) self.old self.new (Stay (after_push (Feed feeding)))) }
+        ensures listed { MatchResult result
+            (λ _. Becomes lists.old (count_book feeding.count) (jobs_of lists.old (count_book feeding.count) ++ task ∷ []) lists.new)
+            (λ back. (back ≡ task) × SameLists lists.old lists.new) }
         ensures pushed { MatchResult result (λ _. StandsLast self.old.own (token_with share) self.new.own) (λ _. Unmoved self.old.own self.new.own) }
         ensures left { SameDeque self.old.own self.new.own × (self.new ≡ record self.old { own = self.new.own; trace = self.new.trace }) }
     {
+        let scope = feeding.count.book();
         let add = Act::FifoIn {
-            job: name,
-            scope: None,
+            job: feeding.job,
+            scope,
         };
-        let token = share.number();
-        if let Err(task) = list.push(task) {
+        if let Err(task) = lists.push(scope, task) {
             self.add(add, Seen::Refused);
             return Err(task);
         }
         self.add(add, Seen::Done);
         let was_empty = self.look_own();
-        let Err(_refused) = self.push_own(token, None, token_of(share)) else {
+        let Err(_refused) = self.push_own(feeding.token, scope, token_of(share)) else {
             return Ok(was_empty);
         };
-        let Some(task) = list.undo_last() else {
+        let Some(task) = lists.undo_last(scope) else {
             unreachable!()
         };
-        self.add(Act::FifoUndo(None), Seen::Task(task.taken()));
+        self.add(Act::FifoUndo(scope), Seen::Task(task.taken()));
         Err(task)
     }
 
-    // Holds the own FIFO list, once nobody else does.
-    fn hold_list<R: Wait>(&self, rt: &R) -> JobFifo<Task<J>> {
-        match self.registry.fifo(self.index) {
-            Some(list) => list.hold(rt),
+    // Holds the own FIFO lists, once nobody else does.
+    pub(crate) fn hold_lists<R: Wait>(&self, rt: &R) -> JobFifos<Task<J>> {
+        match self.registry.fifos(self.index) {
+            Some(lists) => lists.hold(rt),
             None => unreachable!(),
         }
     }
 
-    // Leaves the own FIFO list, which the worker holds: so it is always taken back.
-    fn leave_list<R: Wait>(&self, rt: &R, list: JobFifo<Task<J>>) {
-        match self.registry.fifo(self.index) {
+    // Leaves the own FIFO lists, which the worker holds: so they are always taken back.
+    pub(crate) fn leave_lists<R: Wait>(&self, rt: &R, lists: JobFifos<Task<J>>) {
+        match self.registry.fifos(self.index) {
             Some(lock) => {
-                let _taken = lock.leave(rt, list);
+                let _taken = lock.leave(rt, lists);
             }
             None => unreachable!(),
         }
     }
 
-    // Takes the first job of a worker's FIFO list and begins it, in the place of the token at hand. Where the list is
-    // empty nothing is at hand then. Scopes have no lists yet.
+    // Takes the first job of a worker's FIFO list, the one of this scope or with none that of detached jobs, and begins
+    // it, in the place of the token at hand. Where the list is empty nothing is at hand then.
     pub(crate) fn redeem<R: Wait>(
         &mut self,
         rt: &R,
@@ -255,11 +273,7 @@ impl<J: JobKind> Bench<J> {
             worker,
             scope,
         };
-        let first = match scope {
-            None => self.first_listed(rt, worker),
-            Some(_) => None,
-        };
-        match first {
+        match self.first_listed(rt, worker, scope) {
             Some(task) => {
                 let job = task.number();
                 let kind = task.kind();
@@ -273,21 +287,28 @@ impl<J: JobKind> Bench<J> {
         }
     }
 
-    // The first job of a worker's FIFO list of detached jobs, out of the list. None where there is none. Nothing but
-    // jobs is ever added; since a lock tells no more than a type, what brings no job is let go.
-    fn first_listed<R: Wait>(&self, rt: &R, worker: usize) -> Option<Task<J>>
-        ensures { IfSome result (λ t. HasJob t.work) }
+    // The first job of a worker's FIFO list, the one of this scope or with none that of detached jobs, out of the list.
+    // None where there is none. Nothing but jobs is ever added, and to a scope's list none but those of the scope;
+    // since a lock tells no more than a type, anything else is let go. In the list of detached jobs any job may lie, by
+    // hand.
+    fn first_listed<R: Wait>(&self, rt: &R, worker: usize, scope: Option<u64>) -> Option<Task<J>>
+        ensures job { IfSome result (λ t. HasJob t.work) }
+        ensures list { IfSome result (λ t. OfList scope (Some t)) }
     {
-        let lock = self.registry.fifo(worker)?;
-        let mut list = lock.hold(rt);
-        let first = list.take_first();
-        let _taken = lock.leave(rt, list);
+        let lock = self.registry.fifos(worker)?;
+        let mut lists = lock.hold(rt);
+        let first = lists.take_first(scope);
+        let _taken = lock.leave(rt, lists);
         let Some(task) = first else {
             return None;
         };
-        if task.has_job() {
-            return Some(task);
+        if !task.has_job() {
+            return None;
         }
-        None
+        match scope {
+            None => Some(task),
+            Some(_) if task.is_of(scope) => Some(task),
+            Some(_) => None,
+        }
     }
 }

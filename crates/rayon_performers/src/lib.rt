@@ -14,6 +14,7 @@ mod looks;
 mod reclaimed;
 mod registry;
 mod scope;
+mod scope_fifo;
 mod stretch;
 mod terminate;
 

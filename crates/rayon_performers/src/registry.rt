@@ -15,7 +15,7 @@ use rayon_atomics::own_latch::OwnLatch;
 use rayon_atomics::terminate::TerminateCount;
 use rayon_locks::HeldLock;
 use rayon_machine_places::shape::{Order, PoolShape};
-use rayon_queues::{Injector, JobFifo, Stealers, WorkerDeque};
+use rayon_queues::{Injector, JobFifos, Stealers, WorkerDeque};
 use rayon_sleep::counters::Chair;
 use rayon_sleep::latch::Owner;
 use rayon_sleep::sleep::Sleep;
@@ -43,8 +43,9 @@ pub struct Registry<T> {
     terminate_count: TerminateCount,
     terminate: Vec<Arc<CoreLatch, Global>>,
     caller_names: Mutex<Names>,
-    // by worker, the jobs that it spawned to be run in the order of their spawns, for each of which a token is queued
-    fifos: Vec<CachePadded<HeldLock<JobFifo<T>>>>,
+    // by worker and scope, the jobs that it spawned to be run in the order of their spawns, for each of which a token
+    // is queued
+    fifos: Vec<CachePadded<HeldLock<JobFifos<T>>>>,
 }
 
 impl<T> Model for Registry<T> {
@@ -197,12 +198,13 @@ impl<T: Drop> Registry<T> {
         Some(latch)
     }
 
-    /// The FIFO list of a worker's detached jobs, if the pool has that worker: who holds its lock has the list.
-    pub(crate) fn fifo(&self, worker: usize) -> Option<&HeldLock<JobFifo<T>>>
+    /// A worker's FIFO lists, one of its detached jobs and one for each scope, if the pool has that worker: who holds
+    /// their lock has them.
+    pub(crate) fn fifos(&self, worker: usize) -> Option<&HeldLock<JobFifos<T>>>
         ensures { is_some result ≡ false → self.now.workers ≤ worker }
     {
-        let list: &HeldLock<JobFifo<T>> = self.fifos.get(worker)?;
-        Some(list)
+        let lists: &HeldLock<JobFifos<T>> = self.fifos.get(worker)?;
+        Some(lists)
     }
 
     /// A seat of the terminate count, for one party more.
@@ -259,18 +261,18 @@ fn new_kit<T: Drop>(
     Ok(WorkerKit::new(deque, WorkerSeats::new(chair, terminate)))
 }
 
-// So many FIFO lists without jobs, each of which nobody holds. Refused `NoRoom`.
+// For so many workers FIFO lists without jobs, each of which nobody holds. Refused `NoRoom`.
 fn new_fifos<T: Drop>(
     alloc: Global,
     count: usize,
-) -> Result<Vec<CachePadded<HeldLock<JobFifo<T>>>>, Refusal>
+) -> Result<Vec<CachePadded<HeldLock<JobFifos<T>>>>, Refusal>
     ensures made { IfOk result (λ fifos. length fifos.items ≡ count) }
     ensures refused { IfErr result (λ r. r ≡ Refusal.NoRoom) }
 {
     let mut fifos = Vec::new(alloc);
     for _ in 0..count {
-        let list = HeldLock::new(JobFifo::new(alloc));
-        let Ok(()) = fifos.push(CachePadded::new(list)) else {
+        let lists = HeldLock::new(JobFifos::new(alloc));
+        let Ok(()) = fifos.push(CachePadded::new(lists)) else {
             return Err(Refusal::NoRoom);
         };
     }

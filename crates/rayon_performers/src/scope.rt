@@ -131,7 +131,7 @@ impl<J: JobKind> Bench<J> {
     }
 
     // This ticket stands where the one to answer does, and that where this one did.
-    fn exchange_reply(&mut self, ticket: &mut Option<Ticket<J>>)
+    pub(crate) fn exchange_reply(&mut self, ticket: &mut Option<Ticket<J>>)
         ensures bench { self.new ≡ answering ticket.old self.old }
         ensures ticket { ticket.new ≡ self.old.reply }
     {
@@ -184,7 +184,7 @@ impl<J: JobKind> Bench<J> {
     }
 
     // A share of the ticket to answer, for a job of this name. Refused `NoRoom`.
-    fn share_of_reply(&self, name: u64) -> Result<Ticket<J>, Refusal>
+    pub(crate) fn share_of_reply(&self, name: u64) -> Result<Ticket<J>, Refusal>
         requires { IsSome (scope_in self.now.reply) }
         ensures share { IfOk result (λ t. (u : TicketOf) × (self.now.reply ≡ Some u) × (t ≡ record u { number = name })) }
         ensures refused { IfErr result (λ r. r ≡ Refusal.NoRoom) }
@@ -197,7 +197,7 @@ impl<J: JobKind> Bench<J> {
     }
 
     // The scope that the ticket to answer is of.
-    fn scope_at_hand(&self) -> &ScopeCore<J>
+    pub(crate) fn scope_at_hand(&self) -> &ScopeCore<J>
         requires { IsSome (scope_in self.now.reply) }
         ensures { Some result.now ≡ scope_in self.now.reply }
     {
@@ -211,7 +211,7 @@ impl<J: JobKind> Bench<J> {
     }
 
     // Takes a share of the scope's count for the job of this name, by a seat that is made for it.
-    fn raise_scope<R: Wait>(
+    pub(crate) fn raise_scope<R: Wait>(
         &mut self,
         rt: &R,
         call: u64,
@@ -343,7 +343,7 @@ impl<J: JobKind> Bench<J> {
     }
 
     // Gives such a share back, and where it was the last sets the latch of the scope's call, before this follows.
-    fn lower_scope_then<R: Wait>(
+    pub(crate) fn lower_scope_then<R: Wait>(
         &mut self,
         rt: &R,
         call: u64,

@@ -1,6 +1,6 @@
 //! What lies in the queues of a pool.
 ghost use Rattle.rayon_tasks.specs.Tasks.{HasJob, IsSingle, NoJob, OneJob, TwoSides, sides_with, taken_in};
-ghost use Rattle.rayon_tasks.specs.Tickets.{kind_in};
+ghost use Rattle.rayon_tasks.specs.Tickets.{kind_in, scope_call};
 ghost use Rattle.rayon_tasks.specs.Works.{work_of};
 ghost use Rattle.std.specs.Prelude.{◌≡◌, ◌↔◌, ⊤, IsTrue, None, Some, true, false, IfOk, IfErr};
 
@@ -23,7 +23,7 @@ pub(crate) enum Load<J> {
 }
 
 /// What a call queued: a second side, a job that was sent to the pool, two sides that were sent to the pool, a detached
-/// job, or a token, which stands for the first job of the FIFO list of the worker whose ticket it has.
+/// job, a scope's job, or a token, which stands for the first job of a worker's FIFO list.
 ///
 /// Users of the pool see this type alone of the crate, and to them it is opaque. Tasks are made and taken apart by
 /// functions beside the type, not by its methods, so who has a task and not this crate can neither take its ticket out
@@ -69,7 +69,8 @@ impl<J: JobKind> Task<J> {
         self.ticket.owner()
     }
 
-    /// What is seen of the task where it is taken: its name, and of a token whose FIFO list it is of.
+    /// What is seen of the task where it is taken: its name, and of a token which worker's FIFO list it stands for, and
+    /// of which scope: with none, that of detached jobs.
     #[inline(always)]
     pub fn taken(&self) -> Taken
         ensures { result ≡ taken_in self.now }
@@ -78,8 +79,8 @@ impl<J: JobKind> Task<J> {
         match &self.load {
             Load::Token => Taken::Token {
                 number,
-                worker: self.owner().index(),
-                scope: None,
+                worker: self.ticket.slot() as usize,
+                scope: self.ticket.scope_call(),
             },
             Load::Inside(_) | Load::Injected(_) => Taken::Plain(number),
         }
@@ -94,6 +95,13 @@ impl<J: JobKind> Task<J> {
             Load::Token => false,
             Load::Inside(_) | Load::Injected(_) => true,
         }
+    }
+
+    /// Whether it is of the scope of this call, or with none of no scope.
+    pub fn is_of(&self, scope: Option<u64>) -> bool
+        ensures { IsTrue result ↔ (scope_call self.now.ticket ≡ scope) }
+    {
+        self.ticket.scope_call() == scope
     }
 
     /// What the end of the run sets going: of a scope's job that its result is stored in the scope's book, of a
@@ -154,8 +162,9 @@ pub fn task_of_job<J: JobKind>(job: J, injected: bool, ticket: Ticket<J>) -> Tas
     }
 }
 
-/// The token of this name, which stands for the first job of the FIFO list of the worker whose ticket this is. Nobody
-/// waits for a token.
+/// The token of this ticket, which stands for the first job of a FIFO list: that of the worker whose index the ticket
+/// has in the place of a number, of the jobs of the ticket's scope, or where it has none of detached jobs. Nobody waits
+/// for a token.
 pub fn token_of<J: JobKind>(ticket: Ticket<J>) -> Task<J>
     ensures { result ≡ record { work = NoJob; injected = false; ticket = ticket } }
 {

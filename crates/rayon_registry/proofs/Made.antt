@@ -4,6 +4,7 @@ use Rattle.rayon_machine_places.specs.declared.place.Count.TheVariants.{OfPool}
 use Rattle.std.specs.Result.{IsErr}
 use Rattle.rayon_words.specs.declared.refusal.CallError.{CallError}
 use Rattle.rayon_machine_places.specs.declared.place.Ending.{Ending}
+use Rattle.rayon_machine_places.specs.declared.place.Entry.{Entry}
 use Rattle.rayon_machine_places.specs.declared.place.Ending.TheVariants.{Fine}
 use Rattle.rayon_machine_places.specs.declared.place.JobKind.{JobKind}
 use Rattle.rayon_machine_places.specs.declared.place.JobKind.TheVariants.{BodyOf, Detached, Direct, PieceOf, Scoped, Stored, TokenOf, WholeOf}
@@ -37,7 +38,7 @@ use Rattle.rayon_jobs.specs.Within.{Run}
 use Rattle.rayon_performers.specs.Hands.{Hands, HasResult, HasTicket}
 use Rattle.rayon_performers.specs.Marks.{IsScope, scope_in}
 use Rattle.rayon_performers.specs.Paths.{WorkerGoes}
-use Rattle.rayon_performers.specs.Scopes.{Entered, Enters, EntersNone, answering, entering}
+use Rattle.rayon_performers.specs.Scopes.{Entered, EnteredInOrder, Enters, EntersList, EntersNoList, EntersNone, answering, entering, entry_of, into}
 use Rattle.rayon_performers.specs.Spawns.{CanClose, ClosesRun, Spawned, Spawns, SpawnsNone, with_units}
 use Rattle.rayon_performers.specs.Stands.{Stands}
 use Rattle.rayon_performers.specs.Waits.{Waited, units_after}
@@ -90,6 +91,14 @@ module _ {X G O F : Type 0} (n : ℕ) (s t : Hands X G O F) where
   pub unentered : (k : Option TicketOf) (c : ℕ) (o : Party) → EntersNone k c o n s t → HandedBack s.shape (Worker 0 s.index) (entering c o) s.trace t.trace
   unentered k c o (inl e) = inl (ap (λ (z : Hands X G O F). z.trace) e)
   unentered k c o (inr d) = inr (n, traced s.shape s.index (Stay (at.RaiseCount (entering c o n))) (answering k s) (answering k t) (HandBack (entering c o n)) d)
+
+  -- the same of a spawn in order into a scope, with a token of this name
+  pub entered_in_order : (r : Option TicketOf) (e : Entry) (k : ℕ) → EntersList r e k s t → EnteredInOrder s.shape (Worker 0 s.index) e k s.trace t.trace
+  entered_in_order r e k d = traced s.shape s.index (Stay (at.RaiseCount (Feed (into e k)))) (answering r s) (answering r t) Back d
+
+  pub unentered_in_order : (r : Option TicketOf) (c : ℕ) (o : Party) (k : ℕ) → EntersNoList r (entry_of c o n) k s t → HandedBack s.shape (Worker 0 s.index) (λ j. Feed (into (entry_of c o j) k)) s.trace t.trace
+  unentered_in_order r c o k (inl e) = inl (ap (λ (z : Hands X G O F). z.trace) e)
+  unentered_in_order r c o k (inr d) = inr (n, traced s.shape s.index (Stay (at.RaiseCount (Feed (into (entry_of c o n) k)))) (answering r s) (answering r t) (HandBack (Feed (into (entry_of c o n) k))) d)
 
   -- a scope was opened, or not
   pub scope_opened : WorkerGoes (Stay (at.RaiseCount (Open (own_call n)))) s t (StartRun (at.ScopeBody (own_call n)) n) → ScopeOpened s.shape (Worker 0 s.index) n s.trace t.trace

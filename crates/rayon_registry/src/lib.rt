@@ -21,6 +21,6 @@ pub use job::{Job, Waits};
 pub use join::{ForkJoin, PairRun};
 pub use pool_parts::{end_pool, faults_of, new_pool, shared_of};
 pub use pool_ref::PoolRef;
-pub use scope::{Scope, ScopeCalls};
+pub use scope::{Scope, ScopeCalls, ScopeFifo};
 pub use thread_builder::ThreadBuilder;
 pub use worker_thread::WorkerThread;

@@ -11,7 +11,7 @@ ghost use Rattle.rayon_machine_places.specs.declared.place.Party.TheVariants.{Wo
 ghost use Rattle.rayon_machine_places.specs.declared.place.Plan.TheVariants as plans;
 ghost use Rattle.rayon_performers.specs.Calls.{own_call};
 ghost use Rattle.rayon_performers.specs.Marks.{IsScope, TakesUnit, scope_in};
-ghost use Rattle.rayon_performers.specs.Scopes.{Entered, entered_task, entering};
+ghost use Rattle.rayon_performers.specs.Scopes.{Entered, EnteredInOrder, entered_task, entering, entry_of, into, scope_token};
 ghost use Rattle.rayon_registry.specs.Acts.{CallMade, HandedBack, ScopeLeft, ScopeOpened, Scoped, ended_so};
 ghost use Rattle.rayon_registry.specs.Scopes.{scopes_by};
 ghost use Rattle.rayon_registry.specs.Worker.{EndedCall, Kept};
@@ -25,7 +25,7 @@ use crate::join::Sides;
 use crate::worker_thread::{Lent, WorkerThread};
 use rayon_books::{Ended, NoOutputs, Receipt, are_met};
 use rayon_jobs::{Done, JobKind};
-use rayon_machine_places::place::{Ending, Move, OpenCall, Party, Place, Target};
+use rayon_machine_places::place::{Ending, Entry, Move, OpenCall, Party, Place, Target};
 use rayon_tasks::{Call, Ticket};
 use rayon_words::{CallError, Refusal};
 use std::alloc::Global;
@@ -44,6 +44,10 @@ pub struct Scope<J: JobKind> {
     keeps: bool,
     receipts: Vec<Receipt<J::Tag>>,
 }
+
+/// A scope whose jobs are spawned into it in order. rayon-core's is a type of its own; here any scope takes both kinds
+/// of spawns.
+pub type ScopeFifo<J> = Scope<J>;
 
 impl<J: JobKind> Model for Scope<J> {
     ghost use Rattle.rayon_performers.specs.Marks.{IsScope, scope_in};
@@ -86,6 +90,46 @@ impl<J: JobKind> Scope<J> {
         }
         let tag = job.tag();
         let number = by.enter(rt, &mut self.ticket, self.call, self.owner, job)?;
+        self.receipts.push_reserved(Receipt {
+            number,
+            tag,
+            place: None,
+        });
+        Ok(number)
+    }
+
+    /// Spawns a job into the scope in order, by the worker that calls: adds it last to that worker's FIFO list of this
+    /// scope, and puts a token last into its own deque. Who takes a token, this worker or a thief, runs the first job
+    /// of the list: of the jobs that one worker spawned so into the scope, the first begins first. The scope waits for
+    /// the job, and answers its output at the number that this answers, as with `spawn`. Refused `Full`, `NoRoom`,
+    /// `Ended`, with the job back and nothing added; `Ended` also to a worker of another pool. rayon-core has it of
+    /// `ScopeFifo` alone.
+    #[tactic(auto, unfolding(crate::specs::Pushes::pushed_by, crate::specs::Pushes::left_to, crate::specs::Pushes::takes_oldest, crate::specs::Pushes::units_of, crate::specs::Pushes::count_of, crate::specs::Pushes::shape_at, crate::specs::Pushes::seat_of, crate::specs::Pushes::acts_of, crate::specs::Pushes::saw_set))]
+    pub fn spawn_fifo<R: Wait>(
+        &mut self,
+        rt: &R,
+        by: &mut WorkerThread<J>,
+        job: J,
+    ) -> Result<u64, (Refusal, J)>
+        ensures entered { IfOk result (λ _. (u : TicketOf) × (k : ℕ) × (m : ℕ) × (self.old.ticket ≡ Some u) × EnteredInOrder by.old.shape (Worker 0 by.old.seat) (entry_of self.old.call self.old.owner k) m by.old.acts by.new.acts × (by.new ≡ record by.old { pushed = by.old.pushed ++ scope_token u by.old.seat m ∷ []; left = by.old.left ++ scope_token u by.old.seat m ∷ []; acts = by.new.acts })) }
+        ensures receipt { IfOk result (λ n. self.old.keeps ≡ true → self.new.receipts ≡ self.old.receipts ++ record { number = n; tag = J.tag_of job; place = None } ∷ []) }
+        ensures scope { self.new ≡ record self.old { receipts = self.new.receipts } }
+        ensures back { IfErr result (λ e. (e.1 ≡ job) × (self.new ≡ self.old)) }
+        ensures path { IfErr result (λ _. (m : ℕ) × HandedBack by.old.shape (Worker 0 by.old.seat) (λ k. plans.Feed (into (entry_of self.old.call self.old.owner k) m)) by.old.acts by.new.acts) }
+        ensures kept { IfErr result (λ _. by.new ≡ record by.old { acts = by.new.acts }) }
+        ensures refused { IfErr result (λ e. (e.0 ≡ Refusal.Ended) ⊎ ((e.0 ≡ Refusal.Full) ⊎ (e.0 ≡ Refusal.NoRoom))) }
+    {
+        if by.id().pool != self.pool {
+            return Err((Refusal::Ended, job));
+        }
+        if !self.keeps {
+            return by.enter_fifo(rt, &mut self.ticket, self.call, self.owner, job);
+        }
+        if self.receipts.reserve(1).is_err() {
+            return Err((Refusal::NoRoom, job));
+        }
+        let tag = job.tag();
+        let number = by.enter_fifo(rt, &mut self.ticket, self.call, self.owner, job)?;
         self.receipts.push_reserved(Receipt {
             number,
             tag,
@@ -142,6 +186,40 @@ impl<J: JobKind> WorkerThread<J> {
             return Err((Refusal::Full, job));
         };
         let number = self.bench.enter(rt, ticket, call, owner, name, job)?;
+        Ok(number)
+    }
+
+    // Spawns a job in order into the scope of this call and this owner, which the ticket is of.
+    #[tactic(auto, unfolding(crate::specs::Pushes::pushed_by, crate::specs::Pushes::left_to, crate::specs::Pushes::takes_oldest, crate::specs::Pushes::units_of, crate::specs::Pushes::count_of, crate::specs::Pushes::shape_at, crate::specs::Pushes::seat_of, crate::specs::Pushes::acts_of, crate::specs::Pushes::saw_set))]
+    fn enter_fifo<R: Wait>(
+        &mut self,
+        rt: &R,
+        ticket: &mut Option<Ticket<J>>,
+        call: u64,
+        owner: Party,
+        job: J,
+    ) -> Result<u64, (Refusal, J)>
+        requires { IsScope (scope_in ticket.old) call }
+        ensures ticket { ticket.new ≡ ticket.old }
+        ensures entered { IfOk result (λ _. (u : TicketOf) × (k : ℕ) × (m : ℕ) × (ticket.old ≡ Some u) × EnteredInOrder self.old.shape (Worker 0 self.old.seat) (entry_of call owner k) m self.old.acts self.new.acts × (self.new ≡ record self.old { pushed = self.old.pushed ++ scope_token u self.old.seat m ∷ []; left = self.old.left ++ scope_token u self.old.seat m ∷ []; acts = self.new.acts })) }
+        ensures back { IfErr result (λ e. e.1 ≡ job) }
+        ensures path { IfErr result (λ _. (m : ℕ) × HandedBack self.old.shape (Worker 0 self.old.seat) (λ k. plans.Feed (into (entry_of call owner k) m)) self.old.acts self.new.acts) }
+        ensures kept { IfErr result (λ _. self.new ≡ record self.old { acts = self.new.acts }) }
+        ensures refused { IfErr result (λ e. (e.0 ≡ Refusal.Ended) ⊎ ((e.0 ≡ Refusal.Full) ⊎ (e.0 ≡ Refusal.NoRoom))) }
+    {
+        let Some(name) = self.names.draw() else {
+            return Err((Refusal::Full, job));
+        };
+        let Some(token) = self.names.draw() else {
+            return Err((Refusal::Full, job));
+        };
+        let entry = Entry {
+            call,
+            owner,
+            pool: 0,
+            job: name,
+        };
+        let number = self.bench.enter_fifo(rt, ticket, entry, token, job)?;
         Ok(number)
     }
 
@@ -427,6 +505,61 @@ pub trait ScopeCalls<J: JobKind>: Opens<J> {
 
     /// The same as `scope`: on a worker the body runs in place there too.
     final fn in_place_scope<
+        R: Waits<J>,
+        V: Drop,
+        B: FnOnce(&mut Self, &mut Self::Scope) -> Result<V, J::Fault>,
+    >(
+        &mut self,
+        rt: &R,
+        alloc: Global,
+        body: B,
+    ) -> Result<Ended<V, Self::Outputs>, CallError<J::Fault, B>>
+        requires levels { Self.height self.old ≤ R.levels rt.now }
+        requires callable { (w : _) (s : _) → suc (Self.height w.now) ≡ Self.height self.old → Self.id w.now ≡ Self.id self.old → Self.receipts s.now ≡ [] → Self.keeps s.now ≡ true → B.pre body w s }
+        requires keeps { (w : _) (s : _) (r : _) (v : _) (t : _) → B.post body w s r v t → (Self.height v.now ≡ Self.height w.now) × (Self.id v.now ≡ Self.id w.now) × (Self.units v.now ≡ Self.units w.now) }
+        ensures ok { IfOk result (λ e. (w : _) × (s : _) × (v : _) × (t : _) × (Self.receipts s.now ≡ []) × (Self.keeps s.now ≡ true) × B.post body w s (Ok e.value) v t × MetBy J.Tag.eq (Self.runs e.outputs) (Self.receipts t.now)) }
+        ensures fault { (f : _) → result ≡ Err (CallError.Fault f) → ((w : _) × (s : _) × (v : _) × (t : _) × B.post body w s (Err f) v t) ⊎ ((r : Run J.Tag J.Output J.Fault) × Within J.answers (J.answers_on J.answers) r × (r.answer ≡ Err f)) }
+        ensures back { (r : _) (b : _) → result ≡ Err (CallError.Refused r b) → (b ≡ body) × Self.kept self.old self.new }
+        ensures deep { Self.height self.old ≡ 0 → result ≡ Err (CallError.Refused Refusal.TooDeep body) }
+        ensures shallow { (b : _) → result ≡ Err (CallError.Refused Refusal.TooDeep b) → Self.height self.old ≡ 0 }
+        ensures height { Self.height self.new ≡ Self.height self.old }
+        ensures id { Self.id self.new ≡ Self.id self.old }
+        ensures units { Self.units self.new ≡ Self.units self.old }
+        ensures path { CallMade (Self.scoped Fine self.old self.new) ((e : Ending) × Self.scoped e self.old self.new) (Self.not_opened self.old self.new) result }
+    {
+        self.scope(rt, alloc, body)
+    }
+
+    /// The same as `scope`, for jobs that are spawned into it in order, by `spawn_fifo`: any scope takes both kinds of
+    /// spawns. rayon-core has a type of its own for each.
+    final fn scope_fifo<
+        R: Waits<J>,
+        V: Drop,
+        B: FnOnce(&mut Self, &mut Self::Scope) -> Result<V, J::Fault>,
+    >(
+        &mut self,
+        rt: &R,
+        alloc: Global,
+        body: B,
+    ) -> Result<Ended<V, Self::Outputs>, CallError<J::Fault, B>>
+        requires levels { Self.height self.old ≤ R.levels rt.now }
+        requires callable { (w : _) (s : _) → suc (Self.height w.now) ≡ Self.height self.old → Self.id w.now ≡ Self.id self.old → Self.receipts s.now ≡ [] → Self.keeps s.now ≡ true → B.pre body w s }
+        requires keeps { (w : _) (s : _) (r : _) (v : _) (t : _) → B.post body w s r v t → (Self.height v.now ≡ Self.height w.now) × (Self.id v.now ≡ Self.id w.now) × (Self.units v.now ≡ Self.units w.now) }
+        ensures ok { IfOk result (λ e. (w : _) × (s : _) × (v : _) × (t : _) × (Self.receipts s.now ≡ []) × (Self.keeps s.now ≡ true) × B.post body w s (Ok e.value) v t × MetBy J.Tag.eq (Self.runs e.outputs) (Self.receipts t.now)) }
+        ensures fault { (f : _) → result ≡ Err (CallError.Fault f) → ((w : _) × (s : _) × (v : _) × (t : _) × B.post body w s (Err f) v t) ⊎ ((r : Run J.Tag J.Output J.Fault) × Within J.answers (J.answers_on J.answers) r × (r.answer ≡ Err f)) }
+        ensures back { (r : _) (b : _) → result ≡ Err (CallError.Refused r b) → (b ≡ body) × Self.kept self.old self.new }
+        ensures deep { Self.height self.old ≡ 0 → result ≡ Err (CallError.Refused Refusal.TooDeep body) }
+        ensures shallow { (b : _) → result ≡ Err (CallError.Refused Refusal.TooDeep b) → Self.height self.old ≡ 0 }
+        ensures height { Self.height self.new ≡ Self.height self.old }
+        ensures id { Self.id self.new ≡ Self.id self.old }
+        ensures units { Self.units self.new ≡ Self.units self.old }
+        ensures path { CallMade (Self.scoped Fine self.old self.new) ((e : Ending) × Self.scoped e self.old self.new) (Self.not_opened self.old self.new) result }
+    {
+        self.scope(rt, alloc, body)
+    }
+
+    /// The same as `scope_fifo`: on a worker the body runs in place there too.
+    final fn in_place_scope_fifo<
         R: Waits<J>,
         V: Drop,
         B: FnOnce(&mut Self, &mut Self::Scope) -> Result<V, J::Fault>,

@@ -5,7 +5,7 @@ use Rattle.std.specs.List.Sorted.{IsPermutation}
 use Rattle.fibonacci.specs.Fib.{fib}
 use Rattle.spawn_orders.specs.Orders.{numbers_of}
 use Rattle.spawn_orders.specs.declared.order.Order.{Order}
-use Rattle.spawn_orders.specs.declared.order.Order.TheVariants.{Lifo, Fifo, LifoFifo, FifoLifo, Breadth, MixedLifoFifo, MixedFifoLifo}
+use Rattle.spawn_orders.specs.declared.order.Order.TheVariants.{Lifo, Fifo, LifoFifo, FifoLifo, Breadth, ScopeLifo, ScopeFifo, MixedLifoFifo, MixedFifoLifo}
 use Rattle.rcore_commands.specs.Lines.{spaced}
 use Rattle.rcore_commands.specs.declared.command.Command.{Command}
 use Rattle.rcore_commands.specs.declared.command.Command.TheVariants.{Fib, Threads, Replay}
@@ -18,13 +18,16 @@ fib_word = 102 ∷ 105 ∷ 98 ∷ []
 abbrev pub order_word : List ℕ
 order_word = 111 ∷ 114 ∷ 100 ∷ 101 ∷ 114 ∷ []
 
--- the bytes of the word for an order: lifo, fifo, lifo-fifo, fifo-lifo, breadth, mixed-lifo-fifo, mixed-fifo-lifo
+-- the bytes of the word for an order: lifo, fifo, lifo-fifo, fifo-lifo, breadth, scope-lifo, scope-fifo,
+-- mixed-lifo-fifo, mixed-fifo-lifo
 abbrev pub kind_word : Order → List ℕ
 kind_word Lifo = 108 ∷ 105 ∷ 102 ∷ 111 ∷ []
 kind_word Fifo = 102 ∷ 105 ∷ 102 ∷ 111 ∷ []
 kind_word LifoFifo = 108 ∷ 105 ∷ 102 ∷ 111 ∷ 45 ∷ 102 ∷ 105 ∷ 102 ∷ 111 ∷ []
 kind_word FifoLifo = 102 ∷ 105 ∷ 102 ∷ 111 ∷ 45 ∷ 108 ∷ 105 ∷ 102 ∷ 111 ∷ []
 kind_word Breadth = 98 ∷ 114 ∷ 101 ∷ 97 ∷ 100 ∷ 116 ∷ 104 ∷ []
+kind_word ScopeLifo = 115 ∷ 99 ∷ 111 ∷ 112 ∷ 101 ∷ 45 ∷ 108 ∷ 105 ∷ 102 ∷ 111 ∷ []
+kind_word ScopeFifo = 115 ∷ 99 ∷ 111 ∷ 112 ∷ 101 ∷ 45 ∷ 102 ∷ 105 ∷ 102 ∷ 111 ∷ []
 kind_word MixedLifoFifo = 109 ∷ 105 ∷ 120 ∷ 101 ∷ 100 ∷ 45 ∷ 108 ∷ 105 ∷ 102 ∷ 111 ∷ 45 ∷ 102 ∷ 105 ∷ 102 ∷ 111 ∷ []
 kind_word MixedFifoLifo = 109 ∷ 105 ∷ 120 ∷ 101 ∷ 100 ∷ 45 ∷ 102 ∷ 105 ∷ 102 ∷ 111 ∷ 45 ∷ 108 ∷ 105 ∷ 102 ∷ 111 ∷ []
 

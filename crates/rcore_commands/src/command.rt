@@ -21,14 +21,14 @@ pub enum Command {
         n: u8,
     },
     /// `order <kind>`: in which order one worker runs spawned jobs. The kinds are `lifo`, `fifo`, `lifo-fifo`,
-    /// `fifo-lifo`, `breadth`, `mixed-lifo-fifo` and `mixed-fifo-lifo`.
+    /// `fifo-lifo`, `breadth`, `scope-lifo`, `scope-fifo`, `mixed-lifo-fifo` and `mixed-fifo-lifo`.
     Order {
         /// How they are spawned.
         order: Order,
     },
     /// `threads <num> <word> <word> <cpus>`: how many workers a pool's builder takes that is told this: so many were
-    /// asked for, the environment's two words, and so many processors. A word that writes no number stands for an absent
-    /// one, as `-` does.
+    /// asked for, the environment's two words, and so many processors. A word that writes no number stands for an
+    /// absent one, as `-` does.
     Threads {
         /// How many workers.
         count: usize,
@@ -125,6 +125,8 @@ fn order_named(words: Args) -> Option<Order>
         "lifo-fifo" => Some(Order::LifoFifo),
         "fifo-lifo" => Some(Order::FifoLifo),
         "breadth" => Some(Order::Breadth),
+        "scope-lifo" => Some(Order::ScopeLifo),
+        "scope-fifo" => Some(Order::ScopeFifo),
         "mixed-lifo-fifo" => Some(Order::MixedLifoFifo),
         "mixed-fifo-lifo" => Some(Order::MixedFifoLifo),
         _ => None,

@@ -36,7 +36,7 @@ const TENS_UP: &str =
     82 81 80 99 98 97 96 95 94 93 92 91 90\n";
 
 /// Command lines that are done, and what they print.
-const GOOD_LINES: [(&str, &str); 35] = [
+const GOOD_LINES: [(&str, &str); 37] = [
     ("fib 1 20", "6765\n"),
     ("fib 1 0", "0\n"),
     ("fib 1 1", "1\n"),
@@ -58,6 +58,8 @@ const GOOD_LINES: [(&str, &str); 35] = [
     ("order fifo", UP_TO_99),
     ("order lifo-fifo", TENS_DOWN),
     ("order fifo-lifo", TENS_UP),
+    ("order scope-lifo", DOWN_FROM_99),
+    ("order scope-fifo", UP_TO_99),
     ("order mixed-lifo-fifo", "3 -1 2 -2 1 -3 0\n"),
     ("order mixed-fifo-lifo", "0 -3 1 -2 2 -1 3\n"),
     ("threads 0 0 8 4", "4\n"),
@@ -105,8 +107,8 @@ const BAD_LINES: [&str; 41] = [
     "order breadth breadth",
     "order mixed",
     "order fifo lifo",
-    "order scope-lifo",
-    "order scope-fifo",
+    "order scope",
+    "order scope-breadth",
     "Order lifo",
     "threads",
     "threads 0 0 8",

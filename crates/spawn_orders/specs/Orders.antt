@@ -1,9 +1,9 @@
 use Rattle.std.specs.Prelude.{ℕ, ℤ, pos, negsuc, List, [], ◌∷◌, map, Bool, true, false}
 use Rattle.std.specs.List.{range_with_len}
 use Rattle.spawn_orders.specs.declared.order.Order.{Order}
-use Rattle.spawn_orders.specs.declared.order.Order.TheVariants.{Lifo, Fifo, LifoFifo, FifoLifo, Breadth, MixedLifoFifo, MixedFifoLifo}
+use Rattle.spawn_orders.specs.declared.order.Order.TheVariants.{Lifo, Fifo, LifoFifo, FifoLifo, Breadth, ScopeLifo, ScopeFifo, MixedLifoFifo, MixedFifoLifo}
 use Rattle.spawn_orders.specs.declared.spawned.Work.{Work}
-use Rattle.spawn_orders.specs.declared.spawned.Work.TheVariants.{Tens, Ten, Mixed, Leaf}
+use Rattle.spawn_orders.specs.declared.spawned.Work.TheVariants.{Tens, Ten, Mixed, Scope, ScopeTen, Leaf}
 
 -- -3 to 3
 abbrev pub around_zero : List ℤ
@@ -25,6 +25,8 @@ abbrev pub leaves_of : Work → ℕ
 leaves_of (Tens outer inner) = 100
 leaves_of (Ten ten call) = 10
 leaves_of (Mixed below others) = 7
+leaves_of (Scope call) = 100
+leaves_of (ScopeTen ten call) = 10
 leaves_of (Leaf number) = 1
 
 -- how many jobs it spawns itself
@@ -32,4 +34,6 @@ abbrev pub children_of : Work → ℕ
 children_of (Tens outer inner) = 10
 children_of (Ten ten call) = 10
 children_of (Mixed below others) = 7
+children_of (Scope call) = 10
+children_of (ScopeTen ten call) = 10
 children_of (Leaf number) = 0

@@ -18,6 +18,10 @@ pub enum Order {
     FifoLifo,
     /// As `Lifo`, but the worker takes its oldest first.
     Breadth,
+    /// As `Lifo`, but all are spawned into one scope.
+    ScopeLifo,
+    /// The same, each spawned in order.
+    ScopeFifo,
     /// A job spawns 0, -1, 1, -2, 2, -3 and 3, those below 0 in order.
     MixedLifoFifo,
     /// The same numbers, those that are not below 0 in order.
@@ -49,6 +53,8 @@ impl Order {
             | Order::Fifo
             | Order::LifoFifo
             | Order::FifoLifo
+            | Order::ScopeLifo
+            | Order::ScopeFifo
             | Order::MixedLifoFifo
             | Order::MixedFifoLifo => builder,
         }
@@ -64,6 +70,12 @@ impl Order {
             Order::Fifo => Work::tens(SpawnCall::SpawnFifo, SpawnCall::SpawnFifo),
             Order::LifoFifo => Work::tens(SpawnCall::Spawn, SpawnCall::SpawnFifo),
             Order::FifoLifo => Work::tens(SpawnCall::SpawnFifo, SpawnCall::Spawn),
+            Order::ScopeLifo => Work::Scope {
+                call: SpawnCall::Spawn,
+            },
+            Order::ScopeFifo => Work::Scope {
+                call: SpawnCall::SpawnFifo,
+            },
             Order::MixedLifoFifo => Work::Mixed {
                 below: SpawnCall::SpawnFifo,
                 others: SpawnCall::Spawn,
@@ -80,8 +92,13 @@ impl Order {
         ensures { result.now ≡ numbers_of self }
     {
         match self {
-            Order::Lifo | Order::Fifo | Order::LifoFifo | Order::FifoLifo | Order::Breadth =>
-                &TO_NINETY_NINE,
+            Order::Lifo
+            | Order::Fifo
+            | Order::LifoFifo
+            | Order::FifoLifo
+            | Order::Breadth
+            | Order::ScopeLifo
+            | Order::ScopeFifo => &TO_NINETY_NINE,
             Order::MixedLifoFifo | Order::MixedFifoLifo => &AROUND_ZERO,
         }
     }

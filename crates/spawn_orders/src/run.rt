@@ -24,7 +24,7 @@ pub fn run_order<R: Wait>(
 {
     let work = order.work();
     let (ledger, mut seat) = Ledger::new(alloc, work.leaves()).map_err(OrderFault::Refused)?;
-    let job = Spawned::new(&ledger, work).map_err(OrderFault::Refused)?;
+    let job = Spawned::new(&ledger, 0, work).map_err(OrderFault::Refused)?;
     pool.install(rt, alloc, job)
         .map_err(CallError::without_sides)?;
     let numbers = ledger.take(rt, alloc, &mut seat)?;

@@ -6,7 +6,8 @@ ghost use Rattle.std.specs.Prelude.{◌≡◌, ◌≤◌, ◌*◌, ℕ, pos, IfO
 use crate::fault::OrderFault;
 use crate::ledger::Ledger;
 use rayon_core::{
-    BroadcastContext, FnContext, Job, JobKind, NoHandler, Refusal, Waits, WorkerThread,
+    BroadcastContext, CallError, FnContext, Job, JobKind, NoHandler, Refusal, Scope, ScopeCalls,
+    Waits, WorkerThread,
 };
 use std::alloc::Global;
 use std::sync::Arc;
@@ -20,7 +21,7 @@ pub enum SpawnCall {
     SpawnFifo,
 }
 
-/// What a job does. It is the job's tag.
+/// What a job does.
 #[derive(Clone, Copy, Debug, PartialEq, Eq)]
 pub enum Work {
     /// Spawns the jobs of the tens 0 to 9.
@@ -44,6 +45,18 @@ pub enum Work {
         /// And the others by this one.
         others: SpawnCall,
     },
+    /// Opens a scope, and spawns the jobs of the tens 0 to 9 into it.
+    Scope {
+        /// By this call, as these do theirs.
+        call: SpawnCall,
+    },
+    /// Spawns the jobs of ten numbers into the scope of its own.
+    ScopeTen {
+        /// Their digit of tens.
+        ten: i8,
+        /// The call.
+        call: SpawnCall,
+    },
     /// Puts this number last into the list.
     Leaf(i8),
 }
@@ -62,7 +75,8 @@ impl Work {
     {
         match self {
             Work::Tens { .. } => 100,
-            Work::Ten { .. } => 10,
+            Work::Scope { .. } => 100,
+            Work::Ten { .. } | Work::ScopeTen { .. } => 10,
             Work::Mixed { .. } => 7,
             Work::Leaf(_) => 1,
         }
@@ -73,7 +87,7 @@ impl Work {
         ensures { result ≡ pos (children_of self) }
     {
         match self {
-            Work::Tens { .. } | Work::Ten { .. } => 10,
+            Work::Tens { .. } | Work::Ten { .. } | Work::Scope { .. } | Work::ScopeTen { .. } => 10,
             Work::Mixed { .. } => 7,
             Work::Leaf(_) => 0,
         }
@@ -92,10 +106,9 @@ impl Work {
                     call: inner,
                 },
             )),
-            Work::Ten { ten, call } => {
-                let number = ten.saturating_mul(10).saturating_add(place);
-                Some((call, Work::Leaf(number)))
-            }
+            Work::Scope { call } => Some((call, Work::ScopeTen { ten: place, call })),
+            Work::Ten { ten, call } => Some((call, leaf_of(ten, place))),
+            Work::ScopeTen { ten, call } => Some((call, leaf_of(ten, place))),
             Work::Mixed { below, others } => {
                 let half = place / 2;
                 if place % 2 == 0 {
@@ -109,28 +122,47 @@ impl Work {
     }
 }
 
-/// A job: what it does, and what it shares with the other jobs of its order.
+// The job of a ten that puts the number at this place of the ten into the list.
+fn leaf_of(ten: i8, place: i8) -> Work
+    ensures { leaves_of result ≡ 1 }
+{
+    Work::Leaf(ten.saturating_mul(10).saturating_add(place))
+}
+
+/// A job: its number, which is its tag, what it does, and what it shares with the other jobs of its order.
 #[derive(Drop)]
 pub struct Spawned {
+    number: u64,
     work: Work,
     ledger: Arc<Ledger>,
 }
 
 impl Spawned {
-    /// A job that does this. Refused `NoRoom`.
-    pub(crate) fn new(ledger: &Arc<Ledger>, work: Work) -> Result<Spawned, Refusal>
+    /// A job with this number that does this. Refused `NoRoom`.
+    pub(crate) fn new(ledger: &Arc<Ledger>, number: u64, work: Work) -> Result<Spawned, Refusal>
         ensures work { IfOk result (λ j. j.work ≡ work) }
         ensures refused { IfErr result (λ r. r ≡ Refusal.NoRoom) }
     {
         match Arc::try_clone(ledger) {
-            Ok(ledger) => Ok(Spawned { work, ledger }),
+            Ok(ledger) => Ok(Spawned {
+                number,
+                work,
+                ledger,
+            }),
             Err(_) => Err(Refusal::NoRoom),
         }
+    }
+
+    // The job that this one spawns at this place, which does this. Each job of an order has a number of its own.
+    fn below(&self, place: i8, work: Work) -> Result<Spawned, Refusal> {
+        let place = u64::from(place.unsigned_abs());
+        let number = self.number.saturating_mul(10).saturating_add(place);
+        Spawned::new(&self.ledger, number.saturating_add(1), work)
     }
 }
 
 impl JobKind for Spawned {
-    type Tag = Work;
+    type Tag = u64;
 
     type Output = ();
 
@@ -140,12 +172,12 @@ impl JobKind for Spawned {
 
     ghost answers = { λ t r. Unit {0} };
 
-    ghost tag_of = { λ j. j.work };
+    ghost tag_of = { λ j. j.number };
 
     ghost same_answers = { λ t u e. (λ r h. h, λ i n r h. h) };
 
-    fn tag(&self) -> Work {
-        self.work
+    fn tag(&self) -> u64 {
+        self.number
     }
 }
 
@@ -155,11 +187,19 @@ impl Job for Spawned {
         rt: &R,
         alloc: Global,
         w: &mut WorkerThread<Self>,
-        _ctx: &mut FnContext<Self>,
+        ctx: &mut FnContext<Self>,
     ) -> Result<(), OrderFault> {
         match self.work {
             Work::Leaf(number) => self.ledger.add(rt, number),
-            work => spawn_all(rt, alloc, w, &self.ledger, work),
+            Work::Scope { call } => return scope_all(rt, alloc, w, &self, call),
+            Work::ScopeTen { .. } => match ctx.scope() {
+                Some(scope) => enter_all(rt, w, scope, &self),
+                // (the share of it was refused)
+                None => self.ledger.give_up(rt, Refusal::NoRoom, self.work.leaves()),
+            },
+            Work::Tens { .. } | Work::Ten { .. } | Work::Mixed { .. } => {
+                spawn_all(rt, alloc, w, &self)
+            }
         }
         Ok(())
     }
@@ -175,42 +215,127 @@ impl Job for Spawned {
     }
 }
 
-// Spawns the jobs of one that does this.
-fn spawn_all<R: Waits<Spawned>>(
-    rt: &R,
-    alloc: Global,
-    w: &mut WorkerThread<Spawned>,
-    ledger: &Arc<Ledger>,
-    work: Work,
-)
+// Spawns the jobs of this one.
+fn spawn_all<R: Waits<Spawned>>(rt: &R, alloc: Global, w: &mut WorkerThread<Spawned>, job: &Spawned)
     ensures same { SameWorker w.old w.new }
 {
-    for place in 0..work.children() {
-        if let Some((call, child)) = work.child(place) {
-            spawn(rt, alloc, w, ledger, call, child);
+    for place in 0..job.work.children() {
+        if let Some((call, work)) = job.work.child(place) {
+            let below = job.below(place, work);
+            let spawned = spawn(rt, alloc, w, call, below);
+            settle(rt, job, work, spawned);
         }
     }
 }
 
-// Spawns a job that does this, by this call. Where that is refused its numbers are given up.
+// Spawns a job by this call, if there was memory for it.
 fn spawn<R: Waits<Spawned>>(
     rt: &R,
     alloc: Global,
     w: &mut WorkerThread<Spawned>,
-    ledger: &Arc<Ledger>,
     call: SpawnCall,
-    work: Work,
-)
+    job: Result<Spawned, Refusal>,
+) -> Result<(), Refusal>
     ensures same { SameWorker w.old w.new }
 {
-    let spawned = match (Spawned::new(ledger, work), call) {
+    match (job, call) {
         (Ok(job), SpawnCall::Spawn) => w.spawn(rt, alloc, job).map_err(|(refusal, _)| refusal),
         (Ok(job), SpawnCall::SpawnFifo) => {
             w.spawn_fifo(rt, alloc, job).map_err(|(refusal, _)| refusal)
         }
         (Err(refusal), _) => Err(refusal),
-    };
+    }
+}
+
+// Where a spawn of a job that does this was refused its numbers are given up.
+fn settle<R: Waits<Spawned>>(rt: &R, job: &Spawned, work: Work, spawned: Result<(), Refusal>) {
     if let Err(refusal) = spawned {
-        ledger.give_up(rt, refusal, work.leaves());
+        job.ledger.give_up(rt, refusal, work.leaves());
+    }
+}
+
+// Opens a scope, and spawns the jobs of this one into it by this call.
+fn scope_all<R: Waits<Spawned>>(
+    rt: &R,
+    alloc: Global,
+    w: &mut WorkerThread<Spawned>,
+    job: &Spawned,
+    call: SpawnCall,
+) -> Result<(), OrderFault>
+    requires levels { w.old.levels ≤ R.levels rt.now }
+    ensures same { SameWorker w.old w.new }
+{
+    match call {
+        SpawnCall::Spawn => lifo_scope(rt, alloc, w, job),
+        SpawnCall::SpawnFifo => fifo_scope(rt, alloc, w, job),
+    }
+}
+
+// Opens a scope, and spawns the jobs of this one into it.
+fn lifo_scope<R: Waits<Spawned>>(
+    rt: &R,
+    alloc: Global,
+    w: &mut WorkerThread<Spawned>,
+    job: &Spawned,
+) -> Result<(), OrderFault>
+    requires levels { w.old.levels ≤ R.levels rt.now }
+    ensures same { SameWorker w.old w.new }
+{
+    let ended = w.scope(rt, alloc, |w, scope| Ok(enter_all(rt, w, scope, job)));
+    ended.map_err(CallError::without_sides)?;
+    Ok(())
+}
+
+// The same of a scope for jobs in order.
+fn fifo_scope<R: Waits<Spawned>>(
+    rt: &R,
+    alloc: Global,
+    w: &mut WorkerThread<Spawned>,
+    job: &Spawned,
+) -> Result<(), OrderFault>
+    requires levels { w.old.levels ≤ R.levels rt.now }
+    ensures same { SameWorker w.old w.new }
+{
+    let ended = w.scope_fifo(rt, alloc, |w, scope| Ok(enter_all(rt, w, scope, job)));
+    ended.map_err(CallError::without_sides)?;
+    Ok(())
+}
+
+// Spawns the jobs of this one into a scope.
+fn enter_all<R: Waits<Spawned>>(
+    rt: &R,
+    w: &mut WorkerThread<Spawned>,
+    scope: &mut Scope<Spawned>,
+    job: &Spawned,
+)
+    ensures same { SameWorker w.old w.new }
+{
+    for place in 0..job.work.children() {
+        if let Some((call, work)) = job.work.child(place) {
+            let below = job.below(place, work);
+            let spawned = enter(rt, w, scope, call, below);
+            settle(rt, job, work, spawned);
+        }
+    }
+}
+
+// Spawns a job into a scope by this call, if there was memory for it.
+fn enter<R: Waits<Spawned>>(
+    rt: &R,
+    w: &mut WorkerThread<Spawned>,
+    scope: &mut Scope<Spawned>,
+    call: SpawnCall,
+    job: Result<Spawned, Refusal>,
+) -> Result<(), Refusal>
+    ensures same { SameWorker w.old w.new }
+{
+    let number = match (job, call) {
+        (Ok(job), SpawnCall::Spawn) => scope.spawn(rt, w, job),
+        (Ok(job), SpawnCall::SpawnFifo) => scope.spawn_fifo(rt, w, job),
+        (Err(refusal), _) => return Err(refusal),
+    };
+    match number {
+        Ok(_) => Ok(()),
+        Err((refusal, _)) => Err(refusal),
     }
 }

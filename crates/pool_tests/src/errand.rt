@@ -11,8 +11,8 @@ use std::alloc::Global;
 use std::sync::atomic::{AtomicU64, Ordering};
 use std::sync::{Arc, Barrier, Wait};
 
-/// What the runs of a test's jobs leave behind: how many have begun, the digits that were noted, how many faults a pool's
-/// handler was told, and of which workers' threads it was told that they began, and that they end.
+/// What the runs of a test's jobs leave behind: how many have begun, the digits that were noted, how many faults a
+/// pool's handler was told, and of which workers' threads it was told that they began, and that they end.
 #[derive(Drop)]
 pub struct Marks {
     runs: AtomicU64,
@@ -164,8 +164,8 @@ pub enum Deed {
     /// Takes a task by hand and pushes it again, and joins two of these, one less, as long as it is more than 0.
     /// Answers how many the last ones were.
     Tree(u64),
-    /// Joins one of these, one less, and a job that answers 1, as long as it is more than 0. Answers how many joins stood
-    /// nested.
+    /// Joins one of these, one less, and a job that answers 1, as long as it is more than 0. Answers how many joins
+    /// stood nested.
     Chain(u64),
     /// Spawns four jobs that fault with this digit, two of them in order, and faults with it.
     FaultByFive(u64),

@@ -166,8 +166,9 @@ fn take_and_push<R: Wait>(rt: &R, w: &mut WorkerThread<Errand>) -> Result<u64, T
     }
 }
 
-// Takes two tasks at most out of the own deque, pushes each into the own FIFO list in the order in which they were taken,
-// and so too the token of the last one, which it takes out of the deque again. Answers how many tasks there were.
+// Takes two tasks at most out of the own deque, pushes each into the own FIFO list in the order in which they were
+// taken, and so too the token of the last one, which it takes out of the deque again. Answers how many tasks there
+// were.
 fn take_and_list<R: Wait>(
     rt: &R,
     alloc: Global,
@@ -224,8 +225,8 @@ fn push_again<R: Wait>(
     }
 }
 
-// Pushes a task into the own FIFO list, where there is one, and answers how many there were.
-fn push_in_order<R: Wait>(
+/// Pushes a task into the own FIFO list, where there is one, and answers how many there were.
+pub fn push_in_order<R: Wait>(
     rt: &R,
     alloc: Global,
     w: &mut WorkerThread<Errand>,

@@ -16,6 +16,8 @@ mod names;
 #[cfg(test)]
 mod scope_parts;
 #[cfg(test)]
+mod scope_rows;
+#[cfg(test)]
 mod scopes;
 #[cfg(test)]
 mod tests;

@@ -3,6 +3,7 @@ ghost use Rattle.rayon_core.specs.Worker.{SameWorker};
 ghost use Rattle.std.specs.Prelude.{◌≡◌, ℕ, ◌≤◌};
 
 use crate::errand::{Deed, Errand, Marks, Trouble, outcomes};
+use crate::scope_rows;
 use rayon_core::{
     CallError, Done, Ended, FnContext, ForkJoin, JobKind, Refusal, Scope, ScopeCalls, Waits,
     WorkerThread,
@@ -11,22 +12,24 @@ use std::alloc::Global;
 use std::sync::atomic::{AtomicU64, Ordering};
 use std::sync::{Arc, Wait};
 
-/// The names of the jobs of a tree, each at the number that its spawn was answered.
+/// The names of the jobs of a tree, each at the number that its spawn was answered, and whether they are spawned in
+/// order.
 #[derive(Drop)]
 pub struct Names {
     names: Vec<AtomicU64>,
+    in_order: bool,
 }
 
 impl Names {
     // No name yet, and room for so many.
-    fn new(alloc: Global, count: u64) -> Result<Arc<Names>, Trouble> {
+    fn new(alloc: Global, count: u64, in_order: bool) -> Result<Arc<Names>, Trouble> {
         let mut names = Vec::new(alloc);
         for _ in 0..count {
             names
                 .push(AtomicU64::new(0))
                 .map_err(|_| Trouble::NoMemory)?;
         }
-        Arc::new(alloc, Names { names }).map_err(|_| Trouble::NoMemory)
+        Arc::new(alloc, Names { names, in_order }).map_err(|_| Trouble::NoMemory)
     }
 
     // The place of this number.
@@ -46,8 +49,9 @@ pub enum Part {
     NewestFirst,
     /// Notes 2, spawns a job that notes 4 into the own scope, and answers its number.
     SpawnFour,
-    /// Opens a scope of a tree's jobs, and answers how many outputs stand where the spawn of their job was answered.
-    Tree(u64),
+    /// Opens a scope of so many jobs of a tree, spawned in order or not, and answers how many outputs stand where the
+    /// spawn of their job was answered.
+    Tree(u64, bool),
     /// The tree's job of this name: spawns those of twice the name, and one more, where there are such.
     Twig(u64, Arc<Names>),
     /// Opens a scope, spawns two jobs that end so, and ends so.
@@ -69,6 +73,17 @@ pub enum Part {
     /// Answers the digits of whether there is a scope: for the job, for both sides of a join of jobs, and for both of a
     /// join with a closure.
     Sides,
+    /// Opens a scope whose body answers 9, and spawns four jobs that note 1, 2, 3 and 4, each in order where this says
+    /// so.
+    Row([bool; 4]),
+    /// Opens a scope and another in it, and spawns in turn the jobs that note 1 to 4 into the outer one, in order where
+    /// the first says so, and those that note 5 to 7 into the inner one, in order where the second does: 1 before the
+    /// inner scope, 5, 2, 6, 3 and 7 in its body, which answers 9, and 4 after it.
+    Alternate(bool, bool),
+    /// Opens a scope, spawns jobs that note 3 and 4, and takes both out of the own deque and pushes them into the own
+    /// FIFO list, the older one first. Then spawns one that notes 5 in order, and takes and pushes its token so.
+    /// Answers how many tasks were pushed.
+    ListedByHand,
 }
 
 /// Does what is done with scopes.
@@ -90,7 +105,7 @@ pub fn run<R: Waits<Errand>>(
             marks.note(2);
             spawn_own(rt, w, ctx, marks, Deed::Note(4))
         }
-        Part::Tree(count) => tree(rt, alloc, w, marks, count),
+        Part::Tree(count, in_order) => tree(rt, alloc, w, marks, count, in_order),
         Part::Twig(name, names) => {
             let twice = name.saturating_mul(2);
             let plus_one = twice.saturating_add(1);
@@ -106,6 +121,9 @@ pub fn run<R: Waits<Errand>>(
         Part::HasScope => Ok(u64::from(ctx.scope().is_some())),
         Part::SidesWithin => sides_within(rt, alloc, w, marks),
         Part::Sides => sides(rt, alloc, w, ctx, marks),
+        Part::Row(in_order) => scope_rows::row(rt, alloc, w, marks, in_order),
+        Part::Alternate(outer, inner) => scope_rows::alternate(rt, alloc, w, marks, outer, inner),
+        Part::ListedByHand => scope_rows::listed_by_hand(rt, alloc, w, marks),
     }
 }
 
@@ -119,8 +137,27 @@ fn spawn<R: Wait>(
 ) -> Result<u64, Trouble>
     ensures same { SameWorker w.old w.new }
 {
+    spawn_by(rt, w, scope, marks, deed, false)
+}
+
+/// Spawns a job that does this into a scope, in order or not, and answers its number.
+pub fn spawn_by<R: Wait>(
+    rt: &R,
+    w: &mut WorkerThread<Errand>,
+    scope: &mut Scope<Errand>,
+    marks: &Arc<Marks>,
+    deed: Deed,
+    in_order: bool,
+) -> Result<u64, Trouble>
+    ensures same { SameWorker w.old w.new }
+{
     let job = Errand::new(1, marks, deed)?;
-    match scope.spawn(rt, w, job) {
+    let spawned = if in_order {
+        scope.spawn_fifo(rt, w, job)
+    } else {
+        scope.spawn(rt, w, job)
+    };
+    match spawned {
         Ok(number) => Ok(number),
         Err((refusal, job)) => Err(Trouble::Refused(refusal, job.tag())),
     }
@@ -142,8 +179,8 @@ fn spawn_own<R: Wait>(
     }
 }
 
-// The digits of what a scope gave.
-fn ended<B: Drop>(
+/// The digits of what a scope gave.
+pub fn ended<B: Drop>(
     answer: Result<Ended<u64, Vec<Done<Errand>>>, CallError<Trouble, B>>,
 ) -> Result<u64, Trouble> {
     let ended = match answer {
@@ -360,11 +397,12 @@ fn tree<R: Waits<Errand>>(
     w: &mut WorkerThread<Errand>,
     marks: &Arc<Marks>,
     count: u64,
+    in_order: bool,
 ) -> Result<u64, Trouble>
     requires { w.old.levels ≤ R.levels rt.now }
     ensures same { SameWorker w.old w.new }
 {
-    let names = Names::new(alloc, count)?;
+    let names = Names::new(alloc, count, in_order)?;
     let answer = w.scope(rt, alloc, |w, scope| {
         plant(rt, w, scope, marks, 1, &names)
     });
@@ -393,7 +431,8 @@ fn plant<R: Wait>(
     ensures same { SameWorker w.old w.new }
 {
     let share = Arc::try_clone(names).map_err(|_| Trouble::NoMemory)?;
-    let number = spawn(rt, w, scope, marks, Deed::Scope(Part::Twig(name, share)))?;
+    let twig = Deed::Scope(Part::Twig(name, share));
+    let number = spawn_by(rt, w, scope, marks, twig, names.in_order)?;
     let place = names.at(number).ok_or(Trouble::Unlike)?;
     place.store(name, Ordering::SeqCst);
     Ok(())

@@ -38,10 +38,74 @@ fn a_tree_in_one_scope(rt: HostRuntime) -> Result<(), Fail> {
     let alloc = rt.alloc();
     for workers in [1, 2, 4, 8] {
         let pool = pool_of(&rt, alloc, workers);
-        let found = installed(&rt, alloc, &pool, Deed::Scope(Part::Tree(4_000)));
+        let found = installed(&rt, alloc, &pool, Deed::Scope(Part::Tree(4_000, false)));
         pool.end_and_join(&rt);
         assert_eq!(rt; found, (Ok(4_000), 4_001, 0));
     }
+    Ok(())
+}
+
+// The same of jobs that are spawned in order. Each token finds a job.
+#[test]
+fn a_tree_in_order_in_one_scope(rt: HostRuntime) -> Result<(), Fail> {
+    let alloc = rt.alloc();
+    for workers in [1, 2, 4, 8] {
+        let pool = pool_of(&rt, alloc, workers);
+        let found = installed(&rt, alloc, &pool, Deed::Scope(Part::Tree(4_000, true)));
+        assert_eq!(rt; pool.strays(&rt), 0);
+        pool.end_and_join(&rt);
+        assert_eq!(rt; found, (Ok(4_000), 4_001, 0));
+    }
+    Ok(())
+}
+
+// One worker takes its newest task first, and of the jobs that it spawned in order into a scope each of their tokens
+// begins the first that is left. Other jobs of the scope begin where they lie.
+#[test]
+fn jobs_in_order_in_a_scope(rt: HostRuntime) -> Result<(), Fail> {
+    let alloc = rt.alloc();
+    for (in_order, noted) in [
+        ([true, true, true, true], 1_234),
+        ([false, false, false, false], 4_321),
+        ([true, false, true, false], 4_123),
+        ([false, true, false, true], 2_341),
+        ([true, true, false, false], 4_312),
+        ([false, false, true, true], 3_421),
+    ] {
+        let found = on_one(&rt, alloc, Part::Row(in_order));
+        assert_eq!(rt; found, (Ok(91_234), 5, noted));
+    }
+    Ok(())
+}
+
+// A scope in order has a list of its own: while the inner one waits the worker begins jobs of both, of each in its own
+// order. The inner scope ends with its last job, and the outer one goes on with what it has.
+#[test]
+fn scopes_in_order_in_scopes(rt: HostRuntime) -> Result<(), Fail> {
+    let alloc = rt.alloc();
+    for (outer, inner, noted) in [
+        (false, false, 7_362_541),
+        (true, true, 5_162_734),
+        (false, true, 5_362_741),
+        (true, false, 7_162_534),
+    ] {
+        let found = on_one(&rt, alloc, Part::Alternate(outer, inner));
+        assert_eq!(rt; found, (Ok(95_671_234), 8, noted));
+    }
+    Ok(())
+}
+
+// Jobs of a scope that are pushed by hand into the worker's list of detached jobs run in that list's order, and the
+// scope ends with their outputs. Tokens of that list begin no job of the scope's own one, and the other way round: the
+// token that was pushed last begins the job that was spawned in order.
+#[test]
+fn jobs_of_a_scope_in_the_own_list(rt: HostRuntime) -> Result<(), Fail> {
+    let alloc = rt.alloc();
+    let pool = pool_of(&rt, alloc, 1);
+    let found = installed(&rt, alloc, &pool, Deed::Scope(Part::ListedByHand));
+    assert_eq!(rt; pool.strays(&rt), 0);
+    pool.end_and_join(&rt);
+    assert_eq!(rt; found, (Ok(3_345), 4, 534));
     Ok(())
 }
 

@@ -115,8 +115,8 @@ fn own_deque(rt: HostRuntime) -> Result<(), Fail> {
     Ok(())
 }
 
-// Tasks that are pushed into a worker's FIFO list by hand run in the order in which they were pushed, whatever they are;
-// a token that is pushed so is one token as before.
+// Tasks that are pushed into a worker's FIFO list by hand run in the order in which they were pushed, whatever they
+// are; a token that is pushed so is one token as before.
 #[test]
 fn own_list(rt: HostRuntime) -> Result<(), Fail> {
     let alloc = rt.alloc();

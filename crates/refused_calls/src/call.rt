@@ -1,11 +1,10 @@
 //! The calls that the program makes, and what they give.
 use crate::on_worker::WorkerCall;
 use crate::outcome::{NoPool, Outcome, Report};
-use crate::work::{Answer, Deed, Name, Work, joined, spawned};
+use crate::work::{Answer, Deed, Desk, Name, Work, joined, spawned};
 use rayon_core::{CallError, Ids, Refusal, ThreadPool, ThreadPoolBuilder};
 use std::alloc::Global;
 use std::str;
-use std::sync::atomic::{AtomicU64, Ordering};
 use std::sync::{Arc, Wait};
 use std::thread::Threads;
 
@@ -42,6 +41,8 @@ impl Call {
             "pool_spawn" => Call::OnPool(PoolCall::Spawn),
             "spawn" => Call::OnPool(PoolCall::OnWorker(WorkerCall::Spawn)),
             "spawn_fifo" => Call::OnPool(PoolCall::OnWorker(WorkerCall::SpawnFifo)),
+            "scope" => Call::OnPool(PoolCall::OnWorker(WorkerCall::Scope)),
+            "scope_fifo" => Call::OnPool(PoolCall::OnWorker(WorkerCall::ScopeFifo)),
             "join" => Call::OnPool(PoolCall::OnWorker(WorkerCall::Join)),
             "worker_install" => Call::OnPool(PoolCall::OnWorker(WorkerCall::Install)),
             "wait_until" => Call::OnPool(PoolCall::OnWorker(WorkerCall::WaitUntil)),
@@ -59,7 +60,13 @@ impl PoolCall {
     // How many workers the pool has: one where the call is of a task in the own deque that none may steal, else two.
     fn workers(self) -> usize {
         match self {
-            PoolCall::OnWorker(WorkerCall::Push | WorkerCall::PushFifo | WorkerCall::Deep) => 1,
+            PoolCall::OnWorker(
+                WorkerCall::Push
+                | WorkerCall::PushFifo
+                | WorkerCall::Scope
+                | WorkerCall::ScopeFifo
+                | WorkerCall::Deep,
+            ) => 1,
             _ => 2,
         }
     }
@@ -90,15 +97,15 @@ fn install<R: Wait>(
     rt: &R,
     alloc: Global,
     pool: &ThreadPool<Work>,
-    runs: &Arc<AtomicU64>,
+    desk: &Arc<Desk>,
 ) -> Result<Outcome, Refusal> {
-    let job = Work::new(Name::Installed, runs, Deed::Number(7))?;
+    let job = Work::new(Name::Installed, desk, Deed::Number(7))?;
     Ok(match pool.install(rt, alloc, job) {
         Ok(Answer::Number(number)) => Outcome::Answered(number),
         Err(CallError::Refused(refusal, job)) => Outcome::Refused {
             refusal,
             same_jobs: job.is(Name::Installed, Deed::Number(7)),
-            runs: runs.load(Ordering::SeqCst),
+            runs: desk.runs(),
         },
         _ => Outcome::Unlike,
     })
@@ -109,12 +116,12 @@ fn join<R: Wait>(
     rt: &R,
     alloc: Global,
     pool: &ThreadPool<Work>,
-    runs: &Arc<AtomicU64>,
+    desk: &Arc<Desk>,
 ) -> Result<Outcome, Refusal> {
     let (one, two) = (Deed::Number(20), Deed::Number(3));
-    let first = Work::new(Name::First, runs, one)?;
-    let second = Work::new(Name::Second, runs, two)?;
-    Ok(joined(pool.join(rt, alloc, first, second), runs, one, two))
+    let first = Work::new(Name::First, desk, one)?;
+    let second = Work::new(Name::Second, desk, two)?;
+    Ok(joined(pool.join(rt, alloc, first, second), desk, one, two))
 }
 
 // Spawns a job from outside that counts its run.
@@ -122,10 +129,10 @@ fn spawn<R: Wait>(
     rt: &R,
     alloc: Global,
     pool: &ThreadPool<Work>,
-    runs: &Arc<AtomicU64>,
+    desk: &Arc<Desk>,
 ) -> Result<Outcome, Refusal> {
-    let job = Work::new(Name::Installed, runs, Deed::Number(7))?;
-    Ok(spawned(pool.spawn(rt, alloc, job), runs, Name::Installed))
+    let job = Work::new(Name::Installed, desk, Deed::Number(7))?;
+    Ok(spawned(pool.spawn(rt, alloc, job), desk, Name::Installed))
 }
 
 // Makes a call and, where it is refused, the same again.
@@ -145,12 +152,12 @@ fn install_caller<R: Wait>(
     rt: &R,
     alloc: Global,
     pool: &ThreadPool<Work>,
-    runs: &Arc<AtomicU64>,
+    desk: &Arc<Desk>,
     call: WorkerCall,
 ) -> Result<Report, Refusal> {
-    let job = Work::new(Name::Installed, runs, Deed::Call(call))?;
+    let job = Work::new(Name::Installed, desk, Deed::Call(call))?;
     match pool.install(rt, alloc, job) {
-        Ok(Answer::Reported(report)) => Ok(report),
+        Ok(Answer::Reported) => Ok(desk.take(rt)),
         Err(CallError::Refused(refusal, _)) => Err(refusal),
         _ => Ok(Report::of(Outcome::Unlike)),
     }
@@ -174,20 +181,20 @@ fn make_on_pool<R: Threads + Wait + Copy + Send + 'static>(
     alloc: Global,
     call: PoolCall,
 ) -> Result<Report, Refusal> {
-    let runs = Arc::new(alloc, AtomicU64::new(0)).map_err(|_| Refusal::NoRoom)?;
+    let desk = Arc::new(alloc, Desk::new()).map_err(|_| Refusal::NoRoom)?;
     let builder = ThreadPoolBuilder::<Work>::new().num_threads(call.workers());
     let Ok(pool) = builder.build(rt, alloc, &Ids::new()) else {
         return Err(Refusal::NoRoom);
     };
     let report = match call {
-        PoolCall::Install => twice(|| install(rt, alloc, &pool, &runs)),
-        PoolCall::Join => twice(|| join(rt, alloc, &pool, &runs)),
-        PoolCall::Spawn => twice(|| spawn(rt, alloc, &pool, &runs)),
-        PoolCall::OnWorker(call) => install_caller(rt, alloc, &pool, &runs, call),
+        PoolCall::Install => twice(|| install(rt, alloc, &pool, &desk)),
+        PoolCall::Join => twice(|| join(rt, alloc, &pool, &desk)),
+        PoolCall::Spawn => twice(|| spawn(rt, alloc, &pool, &desk)),
+        PoolCall::OnWorker(call) => install_caller(rt, alloc, &pool, &desk, call),
     };
     pool.end_and_join(rt);
     if call.spawns() {
-        return Ok(report?.and(runs.load(Ordering::SeqCst)));
+        return Ok(report?.and(desk.runs()));
     }
     report
 }

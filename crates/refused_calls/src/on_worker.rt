@@ -1,12 +1,12 @@
 //! The calls that a job makes on its worker, and what they give.
 ghost use Rattle.std.specs.Prelude.{◌≡◌, ℕ, ◌≤◌};
 
+use crate::in_scope::{scope, scope_fifo};
 use crate::outcome::{Outcome, Report};
-use crate::work::{Answer, Deed, Name, Work, joined, spawned};
+use crate::work::{Answer, Deed, Desk, Name, Work, joined, spawned};
 use rayon_core::latch::OwnLatch;
 use rayon_core::{CallError, Refusal, Waits, WorkerThread};
 use std::alloc::Global;
-use std::sync::atomic::{AtomicU64, Ordering};
 use std::sync::{Arc, Wait};
 
 /// How many joins stand nested: more than a deque has room for at first.
@@ -25,6 +25,10 @@ pub enum WorkerCall {
     Spawn,
     /// `WorkerThread::spawn_fifo`.
     SpawnFifo,
+    /// `ScopeCalls::scope`, with two spawns.
+    Scope,
+    /// `ScopeCalls::scope_fifo`, likewise.
+    ScopeFifo,
     /// `WorkerThread::owner`.
     Owner,
     /// `WorkerThread::push`, of a second side that was taken before.
@@ -40,7 +44,7 @@ pub fn make_on_worker<R: Waits<Work>>(
     rt: &R,
     alloc: Global,
     w: &mut WorkerThread<Work>,
-    runs: &Arc<AtomicU64>,
+    desk: &Arc<Desk>,
     call: WorkerCall,
 ) -> Result<Report, Refusal>
     requires { w.old.levels ≤ R.levels rt.now }
@@ -51,11 +55,11 @@ pub fn make_on_worker<R: Waits<Work>>(
     ensures shape { w.new.shape ≡ w.old.shape }
 {
     if call == WorkerCall::Deep {
-        return deep(rt, alloc, w, runs, DEPTH);
+        return deep(rt, alloc, w, desk, DEPTH);
     }
-    let first = make_once(rt, alloc, w, runs, call)?;
+    let first = make_once(rt, alloc, w, desk, call)?;
     let again = match first {
-        Outcome::Refused { .. } => Some(make_once(rt, alloc, w, runs, call)?),
+        Outcome::Refused { .. } => Some(make_once(rt, alloc, w, desk, call)?),
         _ => None,
     };
     Ok(Report { first, again })
@@ -66,7 +70,7 @@ fn make_once<R: Waits<Work>>(
     rt: &R,
     alloc: Global,
     w: &mut WorkerThread<Work>,
-    runs: &Arc<AtomicU64>,
+    desk: &Arc<Desk>,
     call: WorkerCall,
 ) -> Result<Outcome, Refusal>
     requires { w.old.levels ≤ R.levels rt.now }
@@ -77,14 +81,16 @@ fn make_once<R: Waits<Work>>(
     ensures shape { w.new.shape ≡ w.old.shape }
 {
     match call {
-        WorkerCall::Join => join(rt, alloc, w, runs, Deed::Number(20)),
-        WorkerCall::Push => join(rt, alloc, w, runs, Deed::Push),
-        WorkerCall::PushFifo => join(rt, alloc, w, runs, Deed::PushFifo),
-        WorkerCall::Install => install(rt, alloc, w, runs),
-        WorkerCall::WaitUntil => Ok(wait_until(rt, alloc, w, runs)),
-        WorkerCall::Owner => Ok(owner(w, runs)),
-        WorkerCall::Spawn => spawn(rt, alloc, w, runs, false),
-        WorkerCall::SpawnFifo => spawn(rt, alloc, w, runs, true),
+        WorkerCall::Join => join(rt, alloc, w, desk, Deed::Number(20)),
+        WorkerCall::Push => join(rt, alloc, w, desk, Deed::Push),
+        WorkerCall::PushFifo => join(rt, alloc, w, desk, Deed::PushFifo),
+        WorkerCall::Install => install(rt, alloc, w, desk),
+        WorkerCall::WaitUntil => Ok(wait_until(rt, alloc, w, desk)),
+        WorkerCall::Owner => Ok(owner(w, desk)),
+        WorkerCall::Spawn => spawn(rt, alloc, w, desk, false),
+        WorkerCall::SpawnFifo => spawn(rt, alloc, w, desk, true),
+        WorkerCall::Scope => Ok(scope(rt, alloc, w, desk)),
+        WorkerCall::ScopeFifo => Ok(scope_fifo(rt, alloc, w, desk)),
         WorkerCall::Deep => Ok(Outcome::Unlike),
     }
 }
@@ -94,7 +100,7 @@ fn join<R: Waits<Work>>(
     rt: &R,
     alloc: Global,
     w: &mut WorkerThread<Work>,
-    runs: &Arc<AtomicU64>,
+    desk: &Arc<Desk>,
     deed: Deed,
 ) -> Result<Outcome, Refusal>
     requires { w.old.levels ≤ R.levels rt.now }
@@ -104,10 +110,10 @@ fn join<R: Waits<Work>>(
     ensures seat { w.new.seat ≡ w.old.seat }
     ensures shape { w.new.shape ≡ w.old.shape }
 {
-    let first = Work::new(Name::First, runs, deed)?;
-    let second = Work::new(Name::Second, runs, Deed::Number(3))?;
+    let first = Work::new(Name::First, desk, deed)?;
+    let second = Work::new(Name::Second, desk, Deed::Number(3))?;
     let answer = w.join_jobs(rt, alloc, first, second);
-    Ok(joined(answer, runs, deed, Deed::Number(3)))
+    Ok(joined(answer, desk, deed, Deed::Number(3)))
 }
 
 // Installs a job that answers a number.
@@ -115,7 +121,7 @@ fn install<R: Waits<Work>>(
     rt: &R,
     alloc: Global,
     w: &mut WorkerThread<Work>,
-    runs: &Arc<AtomicU64>,
+    desk: &Arc<Desk>,
 ) -> Result<Outcome, Refusal>
     requires { w.old.levels ≤ R.levels rt.now }
     ensures id { w.new.id ≡ w.old.id }
@@ -124,13 +130,13 @@ fn install<R: Waits<Work>>(
     ensures seat { w.new.seat ≡ w.old.seat }
     ensures shape { w.new.shape ≡ w.old.shape }
 {
-    let job = Work::new(Name::First, runs, Deed::Number(7))?;
+    let job = Work::new(Name::First, desk, Deed::Number(7))?;
     Ok(match w.install(rt, alloc, job) {
         Ok(Answer::Number(number)) => Outcome::Answered(number),
         Err(CallError::Refused(refusal, job)) => Outcome::Refused {
             refusal,
             same_jobs: job.is(Name::First, Deed::Number(7)),
-            runs: runs.load(Ordering::SeqCst),
+            runs: desk.runs(),
         },
         _ => Outcome::Unlike,
     })
@@ -141,7 +147,7 @@ fn spawn<R: Waits<Work>>(
     rt: &R,
     alloc: Global,
     w: &mut WorkerThread<Work>,
-    runs: &Arc<AtomicU64>,
+    desk: &Arc<Desk>,
     in_order: bool,
 ) -> Result<Outcome, Refusal>
     ensures id { w.new.id ≡ w.old.id }
@@ -150,13 +156,13 @@ fn spawn<R: Waits<Work>>(
     ensures seat { w.new.seat ≡ w.old.seat }
     ensures shape { w.new.shape ≡ w.old.shape }
 {
-    let job = Work::new(Name::First, runs, Deed::Number(7))?;
+    let job = Work::new(Name::First, desk, Deed::Number(7))?;
     let answer = if in_order {
         w.spawn_fifo(rt, alloc, job)
     } else {
         w.spawn(rt, alloc, job)
     };
-    Ok(spawned(answer, runs, Name::First))
+    Ok(spawned(answer, desk, Name::First))
 }
 
 // Makes a latch, and waits until it is set, which it is.
@@ -164,7 +170,7 @@ fn wait_until<R: Waits<Work>>(
     rt: &R,
     alloc: Global,
     w: &mut WorkerThread<Work>,
-    runs: &Arc<AtomicU64>,
+    desk: &Arc<Desk>,
 ) -> Outcome
     requires { w.old.levels ≤ R.levels rt.now }
     ensures id { w.new.id ≡ w.old.id }
@@ -179,7 +185,7 @@ fn wait_until<R: Waits<Work>>(
             return Outcome::Refused {
                 refusal,
                 same_jobs: true,
-                runs: runs.load(Ordering::SeqCst),
+                runs: desk.runs(),
             };
         }
     };
@@ -191,13 +197,13 @@ fn wait_until<R: Waits<Work>>(
 }
 
 // Asks for what stands for the worker where a latch is set.
-fn owner(w: &WorkerThread<Work>, runs: &Arc<AtomicU64>) -> Outcome {
+fn owner(w: &WorkerThread<Work>, desk: &Arc<Desk>) -> Outcome {
     match w.owner() {
         Ok(_) => Outcome::Answered(1),
         Err(refusal) => Outcome::Refused {
             refusal,
             same_jobs: true,
-            runs: runs.load(Ordering::SeqCst),
+            runs: desk.runs(),
         },
     }
 }
@@ -253,7 +259,7 @@ pub fn deep<R: Waits<Work>>(
     rt: &R,
     alloc: Global,
     w: &mut WorkerThread<Work>,
-    runs: &Arc<AtomicU64>,
+    desk: &Arc<Desk>,
     depth: u32,
 ) -> Result<Report, Refusal>
     requires { w.old.levels ≤ R.levels rt.now }
@@ -263,13 +269,13 @@ pub fn deep<R: Waits<Work>>(
     ensures seat { w.new.seat ≡ w.old.seat }
     ensures shape { w.new.shape ≡ w.old.shape }
 {
-    let report = join_below(rt, alloc, w, runs, depth)?;
+    let report = join_below(rt, alloc, w, desk, depth)?;
     match report {
         Report {
             first: Outcome::Refused { .. },
             again: None,
         } => {
-            let again = join_below(rt, alloc, w, runs, depth)?;
+            let again = join_below(rt, alloc, w, desk, depth)?;
             Ok(Report {
                 first: report.first,
                 again: Some(again.first),
@@ -284,7 +290,7 @@ fn join_below<R: Waits<Work>>(
     rt: &R,
     alloc: Global,
     w: &mut WorkerThread<Work>,
-    runs: &Arc<AtomicU64>,
+    desk: &Arc<Desk>,
     depth: u32,
 ) -> Result<Report, Refusal>
     requires { w.old.levels ≤ R.levels rt.now }
@@ -297,10 +303,10 @@ fn join_below<R: Waits<Work>>(
     let Some(below) = depth.checked_sub(1) else {
         return Ok(Report::of(Outcome::Answered(0)));
     };
-    let first = Work::new(Name::First, runs, Deed::Deep(below))?;
-    let second = Work::new(Name::Second, runs, Deed::Number(1))?;
+    let first = Work::new(Name::First, desk, Deed::Deep(below))?;
+    let second = Work::new(Name::Second, desk, Deed::Number(1))?;
     match w.join_jobs(rt, alloc, first, second) {
-        Ok((Answer::Reported(report), Answer::Number(number))) => Ok(report.and(number)),
-        answer => Ok(Report::of(joined(answer, runs, Deed::Deep(below), Deed::Number(1)))),
+        Ok((Answer::Reported, Answer::Number(number))) => Ok(desk.take(rt).and(number)),
+        answer => Ok(Report::of(joined(answer, desk, Deed::Deep(below), Deed::Number(1)))),
     }
 }

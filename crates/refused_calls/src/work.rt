@@ -7,10 +7,11 @@ use rayon_core::{
     BroadcastContext, CallError, FnContext, Job, JobKind, NoHandler, Refusal, Waits, WorkerThread,
 };
 use std::alloc::Global;
-use std::sync::Arc;
+use std::mem;
 use std::sync::atomic::{AtomicU64, Ordering};
+use std::sync::{Arc, Mutex, Wait};
 
-/// What a job is called: its tag.
+/// What a job is called.
 #[derive(Clone, Copy, PartialEq, Eq)]
 pub enum Name {
     /// A job that is installed.
@@ -19,6 +20,55 @@ pub enum Name {
     First,
     /// The second side of a join.
     Second,
+}
+
+impl Name {
+    /// The tag of the jobs with this name.
+    pub fn tag(self) -> u64 {
+        match self {
+            Name::Installed => 0,
+            Name::First => 1,
+            Name::Second => 2,
+        }
+    }
+}
+
+/// What the jobs of a call share: how many runs were counted, and what a job leaves of the call that it made.
+#[derive(Drop)]
+pub struct Desk {
+    runs: AtomicU64,
+    report: Mutex<Option<Report>>,
+}
+
+impl Desk {
+    /// No run was counted, and nothing is left.
+    pub fn new() -> Desk {
+        Desk {
+            runs: AtomicU64::new(0),
+            report: Mutex::new(None),
+        }
+    }
+
+    /// How many runs were counted.
+    pub fn runs(&self) -> u64 {
+        self.runs.load(Ordering::SeqCst)
+    }
+
+    // Counts a run.
+    fn count(&self) {
+        self.runs.fetch_add(1, Ordering::SeqCst);
+    }
+
+    // Leaves what a call gave.
+    fn leave<R: Wait>(&self, rt: &R, report: Report) {
+        *self.report.lock(rt) = Some(report);
+    }
+
+    /// Takes what a job left last. Something else, where none did.
+    pub fn take<R: Wait>(&self, rt: &R) -> Report {
+        let left = mem::replace(&mut *self.report.lock(rt), None);
+        left.unwrap_or(Report::of(Outcome::Unlike))
+    }
 }
 
 /// What a job does.
@@ -36,42 +86,46 @@ pub enum Deed {
     Deep(u32),
 }
 
-/// A job: its name, where runs are counted, and what it does.
+/// A job: its tag, what it shares with the others, and what it does.
 #[derive(Drop)]
 pub struct Work {
-    name: Name,
-    runs: Arc<AtomicU64>,
+    tag: u64,
+    desk: Arc<Desk>,
     deed: Deed,
 }
 
 /// What a job answers.
-#[derive(Drop)]
+#[derive(Clone, Copy)]
 pub enum Answer {
     /// A number.
     Number(u64),
-    /// What a call on the worker gave.
-    Reported(Report),
+    /// It left what a call on the worker gave.
+    Reported,
 }
 
 impl Work {
-    /// A job with this name that counts its run with the others. Refused `NoRoom`.
-    pub fn new(name: Name, runs: &Arc<AtomicU64>, deed: Deed) -> Result<Work, Refusal> {
-        match Arc::try_clone(runs) {
-            Ok(runs) => Ok(Work { name, runs, deed }),
+    /// A job with this name that shares this with the others. Refused `NoRoom`.
+    pub fn new(name: Name, desk: &Arc<Desk>, deed: Deed) -> Result<Work, Refusal> {
+        match Arc::try_clone(desk) {
+            Ok(desk) => Ok(Work {
+                tag: name.tag(),
+                desk,
+                deed,
+            }),
             Err(_) => Err(Refusal::NoRoom),
         }
     }
 
     /// Whether this is the job with this name that does this.
     pub fn is(&self, name: Name, deed: Deed) -> bool {
-        self.name == name && self.deed == deed
+        self.tag == name.tag() && self.deed == deed
     }
 }
 
 /// What a join gave of a first side that does the first of these, and a second side that does the other.
 pub fn joined(
     answer: Result<(Answer, Answer), CallError<Refusal, (Work, Work)>>,
-    runs: &Arc<AtomicU64>,
+    desk: &Arc<Desk>,
     first_deed: Deed,
     second_deed: Deed,
 ) -> Outcome {
@@ -82,26 +136,26 @@ pub fn joined(
         Err(CallError::Refused(refusal, (first, second))) => Outcome::Refused {
             refusal,
             same_jobs: first.is(Name::First, first_deed) && second.is(Name::Second, second_deed),
-            runs: runs.load(Ordering::SeqCst),
+            runs: desk.runs(),
         },
         _ => Outcome::Unlike,
     }
 }
 
 /// What a spawn gave of a job with this name: 0 where it was queued, to which its run is added once it has run.
-pub fn spawned(answer: Result<(), (Refusal, Work)>, runs: &Arc<AtomicU64>, name: Name) -> Outcome {
+pub fn spawned(answer: Result<(), (Refusal, Work)>, desk: &Arc<Desk>, name: Name) -> Outcome {
     match answer {
         Ok(()) => Outcome::Answered(0),
         Err((refusal, job)) => Outcome::Refused {
             refusal,
             same_jobs: job.is(name, Deed::Number(7)),
-            runs: runs.load(Ordering::SeqCst),
+            runs: desk.runs(),
         },
     }
 }
 
 impl JobKind for Work {
-    type Tag = Name;
+    type Tag = u64;
 
     type Output = Answer;
 
@@ -111,10 +165,10 @@ impl JobKind for Work {
 
     ghost answers = { λ t r. Unit {0} };
 
-    ghost tag_of = { λ j. j.name };
+    ghost tag_of = { λ j. j.tag };
 
-    fn tag(&self) -> Name {
-        self.name
+    fn tag(&self) -> u64 {
+        self.tag
     }
 
     ghost same_answers = { λ t u e. (λ r h. h, λ i n r h. h) };
@@ -130,16 +184,21 @@ impl Job for Work {
     ) -> Result<Answer, Refusal> {
         match self.deed {
             Deed::Number(number) => {
-                self.runs.fetch_add(1, Ordering::SeqCst);
+                self.desk.count();
                 Ok(Answer::Number(number))
             }
             Deed::Call(call) => {
-                let report = make_on_worker(rt, alloc, w, &self.runs, call)?;
-                Ok(Answer::Reported(report))
+                let report = make_on_worker(rt, alloc, w, &self.desk, call)?;
+                self.desk.leave(rt, report);
+                Ok(Answer::Reported)
             }
             Deed::Push => push_again(rt, w),
             Deed::PushFifo => push_in_order(rt, alloc, w),
-            Deed::Deep(depth) => Ok(Answer::Reported(deep(rt, alloc, w, &self.runs, depth)?)),
+            Deed::Deep(depth) => {
+                let report = deep(rt, alloc, w, &self.desk, depth)?;
+                self.desk.leave(rt, report);
+                Ok(Answer::Reported)
+            }
         }
     }
 
@@ -150,7 +209,7 @@ impl Job for Work {
         _w: &mut WorkerThread<Self>,
         _ctx: &mut BroadcastContext<Self>,
     ) -> Result<Answer, Refusal> {
-        self.runs.fetch_add(1, Ordering::SeqCst);
+        self.desk.count();
         Ok(Answer::Number(1))
     }
 }

@@ -1,0 +1,152 @@
+//! Scopes of two jobs of which a spawn may be refused, and what they give.
+ghost use Rattle.rayon_core.specs.Worker.{SameWorker};
+ghost use Rattle.std.specs.Prelude.{◌≡◌, ℕ, ◌≤◌};
+
+use crate::outcome::Outcome;
+use crate::work::{Answer, Deed, Desk, Name, Work};
+use rayon_core::{
+    CallError, Done, Ended, Receipt, Refusal, Scope, ScopeCalls, ScopeFifo, Waits, WorkerThread,
+};
+use std::alloc::Global;
+use std::sync::{Arc, Wait};
+
+/// The numbers that a body's spawns were answered. None where one was refused.
+type Numbers = (Option<u64>, Option<u64>);
+
+/// Opens a scope, and spawns a job that answers 20 and one that answers 3 into it. Answers the sum of those that were
+/// spawned.
+pub fn scope<R: Waits<Work>>(
+    rt: &R,
+    alloc: Global,
+    w: &mut WorkerThread<Work>,
+    desk: &Arc<Desk>,
+) -> Outcome
+    requires levels { w.old.levels ≤ R.levels rt.now }
+    ensures same { SameWorker w.old w.new }
+{
+    ended(
+        w.scope(rt, alloc, |w, scope| spawn_both(rt, w, scope, desk)),
+        desk,
+    )
+}
+
+/// The same, of a scope in order.
+pub fn scope_fifo<R: Waits<Work>>(
+    rt: &R,
+    alloc: Global,
+    w: &mut WorkerThread<Work>,
+    desk: &Arc<Desk>,
+) -> Outcome
+    requires levels { w.old.levels ≤ R.levels rt.now }
+    ensures same { SameWorker w.old w.new }
+{
+    ended(
+        w.scope_fifo(rt, alloc, |w, scope| spawn_in_order(rt, w, scope, desk)),
+        desk,
+    )
+}
+
+// Spawns both jobs into a scope. Where the first is refused the second is spawned all the same.
+fn spawn_both<R: Wait>(
+    rt: &R,
+    w: &mut WorkerThread<Work>,
+    scope: &mut Scope<Work>,
+    desk: &Arc<Desk>,
+) -> Result<Numbers, Refusal>
+    ensures same { SameWorker w.old w.new }
+{
+    let first = Work::new(Name::First, desk, Deed::Number(20))?;
+    let second = Work::new(Name::Second, desk, Deed::Number(3))?;
+    let first = number_of(scope.spawn(rt, w, first), Name::First, Deed::Number(20))?;
+    let second = number_of(scope.spawn(rt, w, second), Name::Second, Deed::Number(3))?;
+    Ok((first, second))
+}
+
+// The same, into a scope in order.
+fn spawn_in_order<R: Wait>(
+    rt: &R,
+    w: &mut WorkerThread<Work>,
+    scope: &mut ScopeFifo<Work>,
+    desk: &Arc<Desk>,
+) -> Result<Numbers, Refusal>
+    ensures same { SameWorker w.old w.new }
+{
+    let first = Work::new(Name::First, desk, Deed::Number(20))?;
+    let second = Work::new(Name::Second, desk, Deed::Number(3))?;
+    let first = number_of(
+        scope.spawn_fifo(rt, w, first),
+        Name::First,
+        Deed::Number(20),
+    )?;
+    let second = number_of(
+        scope.spawn_fifo(rt, w, second),
+        Name::Second,
+        Deed::Number(3),
+    )?;
+    Ok((first, second))
+}
+
+// The number that a spawn of the job with this name, which does this, was answered. None where want of memory refused
+// it, with that very job back.
+fn number_of(
+    answer: Result<u64, (Refusal, Work)>,
+    name: Name,
+    deed: Deed,
+) -> Result<Option<u64>, Refusal> {
+    match answer {
+        Ok(number) => Ok(Some(number)),
+        Err((Refusal::NoRoom, job)) if job.is(name, deed) => Ok(None),
+        Err((refusal, _)) => Err(refusal),
+    }
+}
+
+// What a scope gave. Where it was refused its body came back, which has made no job.
+fn ended<B: Drop>(
+    answer: Result<Ended<Numbers, Vec<Done<Work>>>, CallError<Refusal, B>>,
+    desk: &Arc<Desk>,
+) -> Outcome {
+    let runs = desk.runs();
+    match answer {
+        Ok(ended) => match sum_of(&ended, runs) {
+            Some(sum) => Outcome::Answered(sum),
+            None => Outcome::Unlike,
+        },
+        Err(CallError::Refused(refusal, _body)) => Outcome::Refused {
+            refusal,
+            same_jobs: true,
+            runs,
+        },
+        Err(_) => Outcome::Unlike,
+    }
+}
+
+// The sum of the outputs. None unless those that were spawned have the numbers from 0 on, each has its output there,
+// and there are as many outputs and runs as spawned jobs.
+fn sum_of(ended: &Ended<Numbers, Vec<Done<Work>>>, runs: u64) -> Option<u64> {
+    let (first, second) = ended.value;
+    let mut spawned = 0u64;
+    let mut sum = 0u64;
+    for (number, name) in [(first, Name::First), (second, Name::Second)] {
+        let Some(number) = number else {
+            continue;
+        };
+        let receipt = Receipt {
+            number,
+            tag: name.tag(),
+            place: None,
+        };
+        let Some(Answer::Number(output)) = ended.output(&receipt) else {
+            return None;
+        };
+        if number != spawned {
+            return None;
+        }
+        spawned = spawned.saturating_add(1);
+        sum = sum.saturating_add(*output);
+    }
+    if ended.outputs.len() as u64 == spawned && runs == spawned {
+        Some(sum)
+    } else {
+        None
+    }
+}

@@ -1,7 +1,7 @@
 //! The commands of `join_bench` on the original's pools: for each timed run the nanoseconds that it took and what it
 //! answered.
 
-use rayon_core::{join, spawn, spawn_fifo, ThreadPool, ThreadPoolBuilder};
+use rayon_core::{join, scope, scope_fifo, spawn, spawn_fifo, ThreadPool, ThreadPoolBuilder};
 use std::error::Error;
 use std::hint::black_box;
 use std::sync::atomic::{AtomicU64, Ordering};
@@ -18,7 +18,7 @@ const RUNS: u32 = 3;
 /// How many calls are made from outside, one after the other.
 const CALLS: u32 = 20_000;
 
-/// How many jobs are spawned by one.
+/// How many jobs are spawned by one, or into one scope.
 const SPAWNS: u64 = 100_000;
 
 /// How many seconds a pool is idle.
@@ -42,8 +42,13 @@ fn main() -> Result<(), Box<dyn Error>> {
         }
         ["spawn", workers, _] => time_spawns(&pool_of(workers.parse()?)?, false),
         ["spawn_fifo", workers, _] => time_spawns(&pool_of(workers.parse()?)?, true),
+        ["scope", workers, _] => time_scopes(&pool_of(workers.parse()?)?, run_scope),
+        ["scope_fifo", workers, _] => time_scopes(&pool_of(workers.parse()?)?, run_scope_fifo),
         ["idle", workers, n] => idle(&pool_of(workers.parse()?)?, n.parse()?),
-        _ => Err("join|leaves|sequential|install|pool_join|spawn|spawn_fifo|idle WORKERS N, or nothing".into()),
+        _ => Err(
+            "join|leaves|sequential|install|pool_join|spawn|spawn_fifo|scope|scope_fifo|idle WORKERS N, or nothing"
+                .into(),
+        ),
     }
 }
 
@@ -107,6 +112,32 @@ fn time_spawns(pool: &ThreadPool, in_order: bool) -> Result<(), Box<dyn Error>> 
         println!("{nanoseconds} {SPAWNS}");
     }
     Ok(())
+}
+
+fn time_scopes(pool: &ThreadPool, run: fn()) -> Result<(), Box<dyn Error>> {
+    for _ in 0..RUNS {
+        let start = Instant::now();
+        pool.install(run);
+        let nanoseconds = start.elapsed().as_nanos();
+        println!("{nanoseconds} {SPAWNS}");
+    }
+    Ok(())
+}
+
+fn run_scope() {
+    scope(|scope| {
+        for _ in 0..SPAWNS {
+            scope.spawn(|_| ());
+        }
+    });
+}
+
+fn run_scope_fifo() {
+    scope_fifo(|scope| {
+        for _ in 0..SPAWNS {
+            scope.spawn_fifo(|_| ());
+        }
+    });
 }
 
 fn time_sequential(n: u8) -> Result<(), Box<dyn Error>> {

@@ -3,10 +3,10 @@ use Rattle.std.specs.Str.Parse.{IsNumeral, digits_value, without_leading_plus}
 use Rattle.bench_commands.specs.declared.command.Command.{Command}
 use Rattle.bench_commands.specs.declared.command.Command.TheVariants.{Values, Time}
 use Rattle.bench_commands.specs.declared.command.Timed.{Timed}
-use Rattle.bench_commands.specs.declared.command.Timed.TheVariants.{Join, Leaves, Sequential, Install, PoolJoin, Spawn, SpawnFifo, Idle}
+use Rattle.bench_commands.specs.declared.command.Timed.TheVariants.{Join, Leaves, Sequential, Install, PoolJoin, Spawn, SpawnFifo, Scope, ScopeFifo, Idle}
 
 -- the bytes of the word that asks for this: join, leaves, sequential, install, pool_join, spawn,
--- spawn_fifo, idle
+-- spawn_fifo, scope, scope_fifo, idle
 abbrev pub word_of : Timed → List ℕ
 word_of Join = 106 ∷ 111 ∷ 105 ∷ 110 ∷ []
 word_of Leaves = 108 ∷ 101 ∷ 97 ∷ 118 ∷ 101 ∷ 115 ∷ []
@@ -15,6 +15,8 @@ word_of Install = 105 ∷ 110 ∷ 115 ∷ 116 ∷ 97 ∷ 108 ∷ 108 ∷ []
 word_of PoolJoin = 112 ∷ 111 ∷ 111 ∷ 108 ∷ 95 ∷ 106 ∷ 111 ∷ 105 ∷ 110 ∷ []
 word_of Spawn = 115 ∷ 112 ∷ 97 ∷ 119 ∷ 110 ∷ []
 word_of SpawnFifo = 115 ∷ 112 ∷ 97 ∷ 119 ∷ 110 ∷ 95 ∷ 102 ∷ 105 ∷ 102 ∷ 111 ∷ []
+word_of Scope = 115 ∷ 99 ∷ 111 ∷ 112 ∷ 101 ∷ []
+word_of ScopeFifo = 115 ∷ 99 ∷ 111 ∷ 112 ∷ 101 ∷ 95 ∷ 102 ∷ 105 ∷ 102 ∷ 111 ∷ []
 word_of Idle = 105 ∷ 100 ∷ 108 ∷ 101 ∷ []
 
 -- a word that writes a number: decimal digits, one or more, after a plus or none

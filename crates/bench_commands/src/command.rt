@@ -23,6 +23,10 @@ pub enum Timed {
     Spawn,
     /// The same, spawned in order.
     SpawnFifo,
+    /// A scope of empty jobs, by one job.
+    Scope,
+    /// The same, a scope in order.
+    ScopeFifo,
     /// Nothing: the pool is idle for some seconds after it has found F(n).
     Idle,
 }
@@ -41,6 +45,8 @@ impl Timed {
             "pool_join" => Some(Timed::PoolJoin),
             "spawn" => Some(Timed::Spawn),
             "spawn_fifo" => Some(Timed::SpawnFifo),
+            "scope" => Some(Timed::Scope),
+            "scope_fifo" => Some(Timed::ScopeFifo),
             "idle" => Some(Timed::Idle),
             _ => None,
         }

@@ -4,4 +4,5 @@
 pub mod command;
 mod leaves;
 pub mod measure;
+mod scopes;
 mod spawns;

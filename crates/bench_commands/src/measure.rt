@@ -4,6 +4,7 @@ ghost use Rattle.fibonacci.specs.Fib.{fib};
 
 use crate::command::{Command, Timed};
 use crate::leaves::Leaves;
+use crate::scopes::Scoping;
 use crate::spawns::Spawning;
 use anyhow::{Context, Result};
 use fibonacci::{Fib, sequential};
@@ -22,7 +23,7 @@ const RUNS: u32 = 3;
 // How many calls are made from outside, one after the other.
 const CALLS: u32 = 20_000;
 
-// How many jobs are spawned by one.
+// How many jobs are spawned by one, or into one scope.
 const SPAWNS: u64 = 100_000;
 
 // How many seconds a pool is idle.
@@ -37,27 +38,28 @@ pub fn run<R: Runtime + Threads + Wait + Copy + Send + 'static>(
 ) -> Result<()> {
     match command {
         Command::Values => run_on_pool(rt, alloc, 1, None),
-        Command::Time {
-            what: Timed::Sequential,
-            n,
-            ..
-        } => time_sequential(rt, n),
-        Command::Time {
-            what: Timed::Leaves,
-            workers,
-            n,
-        } => run_leaves(rt, alloc, workers, n),
-        Command::Time {
-            what: Timed::Spawn,
-            workers,
-            ..
-        } => run_spawns(rt, alloc, workers, false),
-        Command::Time {
-            what: Timed::SpawnFifo,
-            workers,
-            ..
-        } => run_spawns(rt, alloc, workers, true),
-        Command::Time { what, workers, n } => run_on_pool(rt, alloc, workers, Some((what, n))),
+        Command::Time { what, workers, n } => run_timed(rt, alloc, what, workers, n),
+    }
+}
+
+// Times this, on a pool of so many workers that is made for it.
+fn run_timed<R: Runtime + Threads + Wait + Copy + Send + 'static>(
+    rt: &R,
+    alloc: Global,
+    what: Timed,
+    workers: usize,
+    n: u8,
+) -> Result<()> {
+    match what {
+        Timed::Sequential => time_sequential(rt, n),
+        Timed::Leaves => run_leaves(rt, alloc, workers, n),
+        Timed::Spawn => run_spawns(rt, alloc, workers, false),
+        Timed::SpawnFifo => run_spawns(rt, alloc, workers, true),
+        Timed::Scope => run_scopes(rt, alloc, workers, Scoping::new(SPAWNS, false)),
+        Timed::ScopeFifo => run_scopes(rt, alloc, workers, Scoping::new(SPAWNS, true)),
+        Timed::Join | Timed::Install | Timed::PoolJoin | Timed::Idle => {
+            run_on_pool(rt, alloc, workers, Some((what, n)))
+        }
     }
 }
 
@@ -109,6 +111,21 @@ fn run_spawns<R: Runtime + Threads + Wait + Copy + Send + 'static>(
     outcome
 }
 
+// The same of a job that opens a scope.
+fn run_scopes<R: Runtime + Threads + Wait + Copy + Send + 'static>(
+    rt: &R,
+    alloc: Global,
+    workers: usize,
+    job: Scoping,
+) -> Result<()> {
+    let ids = Ids::new();
+    let builder = ThreadPoolBuilder::<Scoping>::new().num_threads(workers);
+    let pool = builder.build(rt, alloc, &ids)?;
+    let outcome = time_scopes(rt, alloc, &pool, job);
+    pool.end_and_join(rt);
+    outcome
+}
+
 // Times this on the pool.
 fn time<R: Runtime + Wait>(
     rt: &R,
@@ -122,7 +139,12 @@ fn time<R: Runtime + Wait>(
         Timed::Install => time_installs(rt, alloc, pool, n),
         Timed::PoolJoin => time_pool_joins(rt, alloc, pool, n),
         Timed::Idle => idle(rt, alloc, pool, n),
-        Timed::Leaves | Timed::Sequential | Timed::Spawn | Timed::SpawnFifo => Ok(()),
+        Timed::Leaves
+        | Timed::Sequential
+        | Timed::Spawn
+        | Timed::SpawnFifo
+        | Timed::Scope
+        | Timed::ScopeFifo => Ok(()),
     }
 }
 
@@ -223,6 +245,24 @@ fn time_spawns<R: Runtime + Wait>(
         }
         let nanoseconds = start.elapsed(rt)?.as_nanos();
         println!(rt; "{nanoseconds} {spawned}")?;
+    }
+    Ok(())
+}
+
+// One install for each run: what is timed is the scope inside, until it is answered.
+fn time_scopes<R: Runtime + Wait>(
+    rt: &R,
+    alloc: Global,
+    pool: &ThreadPool<Scoping>,
+    job: Scoping,
+) -> Result<()> {
+    for _ in 0..RUNS {
+        let start = Instant::now(rt)?;
+        let outputs = pool
+            .install(rt, alloc, job)
+            .map_err(CallError::without_sides)?;
+        let nanoseconds = start.elapsed(rt)?.as_nanos();
+        println!(rt; "{nanoseconds} {outputs}")?;
     }
     Ok(())
 }

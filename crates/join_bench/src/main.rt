@@ -12,7 +12,7 @@ fn main(rt: HostRuntime) -> Result<()> {
     let _ = words.next();
     let Some(command) = Command::parse(words) else {
         bail!(
-            "join|leaves|sequential|install|pool_join|spawn|spawn_fifo|idle WORKERS N, or nothing"
+            "join|leaves|sequential|install|pool_join|spawn|spawn_fifo|scope|scope_fifo|idle WORKERS N, or nothing"
         );
     };
     run(&rt, alloc, command)

@@ -1,0 +1,5 @@
+use Rattle.rayon_core.specs.Worker.{SameWorker}
+use Rattle.bench_commands.proofs.scopes.spawn_in_order.Given as goal
+
+abbrev pub invariant-loop : goal.invariant-loop
+invariant-loop g l = SameWorker l.initial.w l.w

@@ -115,7 +115,7 @@ fn act(stage: &'static Stage, place: Place, deed: &Deed) -> u64 {
         },
         Act::Serve(gate, times) => serve(stage, gate, place.here.number(times).unwrap_or(0)),
         Act::Into(out, call) => match (new(call), place.scope) {
-            (Some(job), Some(scope)) => into(scope, out, job, place.worker),
+            (Some(job), Some(scope)) => into(scope, out, job),
             (_, scope) => outside_of_scopes(stage, scope),
         },
         Act::IntoBroadcast(call) => match (new(call), place.scope) {

@@ -1,6 +1,6 @@
 //! Scopes of both orders.
 
-use crate::play::{Play, Worker};
+use crate::play::{current_worker, Play, Worker};
 use crate::script::{Order, Shape};
 use rayon_core::{Scope, ScopeFifo, ThreadPool};
 use std::sync::atomic::{AtomicU64, Ordering::SeqCst};
@@ -26,12 +26,31 @@ impl Book {
     }
 }
 
-/// The scope that a run belongs to, its book, and the scope further out.
+/// The scope that a run belongs to, its book, the worker that opened it, if one did, and the scope further out.
 #[derive(Clone, Copy)]
 pub struct Link<'a> {
     scope: Either<'a>,
     book: &'static Book,
+    opener: Option<Worker>,
     up: Option<&'a Link<'a>>,
+}
+
+impl<'a> Link<'a> {
+    /// The same scope as it is handed to one of its jobs.
+    fn at_job(scope: Either<'a>, book: &'static Book, opener: Option<Worker>) -> Link<'a> {
+        Link {
+            scope,
+            book,
+            opener,
+            up: None,
+        }
+    }
+
+    /// Runs a job that was spawned into the scope, and enters what it answered. It has migrated where another worker
+    /// runs it than the one that opened the scope.
+    fn run(&self, job: Play) {
+        self.book.add(job.run_detached(self.opener, Some(self)));
+    }
 }
 
 /// What a scope answered: its body, and its jobs.
@@ -50,8 +69,15 @@ pub fn open_scope(
 ) -> Scoped {
     let migrated = pool.is_some() && !shape.in_place;
     let book: &'static Book = Box::leak(Box::default());
+    let opener = current_worker();
     let value = in_scope(pool, shape, |scope| {
-        body.run(migrated, Some(&Link { scope, book, up }))
+        let link = Link {
+            scope,
+            book,
+            opener,
+            up,
+        };
+        body.run(migrated, Some(&link))
     });
     let (sum, count) = (book.sum.load(SeqCst), book.count.load(SeqCst));
     Scoped { value, sum, count }
@@ -86,7 +112,7 @@ fn in_scope(
 }
 
 /// Spawns a job into the scope so many further out.
-pub fn into(scope: &Link, out: u64, job: Play, by: Option<Worker>) -> u64 {
+pub fn into(scope: &Link, out: u64, job: Play) -> u64 {
     let mut link = scope;
     for _ in 0..out {
         match link.up {
@@ -97,29 +123,13 @@ pub fn into(scope: &Link, out: u64, job: Play, by: Option<Worker>) -> u64 {
             }
         }
     }
-    let book = link.book;
+    let Link { book, opener, .. } = *link;
     match link.scope {
         Either::Lifo(scope) => scope.spawn(move |scope| {
-            let scope = Either::Lifo(scope);
-            book.add(job.run_detached(
-                by,
-                Some(&Link {
-                    scope,
-                    book,
-                    up: None,
-                }),
-            ));
+            Link::at_job(Either::Lifo(scope), book, opener).run(job);
         }),
         Either::Fifo(scope) => scope.spawn_fifo(move |scope| {
-            let scope = Either::Fifo(scope);
-            book.add(job.run_detached(
-                by,
-                Some(&Link {
-                    scope,
-                    book,
-                    up: None,
-                }),
-            ));
+            Link::at_job(Either::Fifo(scope), book, opener).run(job);
         }),
     }
     0
@@ -127,29 +137,15 @@ pub fn into(scope: &Link, out: u64, job: Play, by: Option<Worker>) -> u64 {
 
 /// Broadcasts a job into the scope.
 pub fn into_broadcast(scope: &Link, job: Play) -> u64 {
-    let book = scope.book;
+    let Link { book, opener, .. } = *scope;
     match scope.scope {
         Either::Lifo(scope) => scope.spawn_broadcast(move |scope, _| {
-            let scope = Either::Lifo(scope);
-            book.add(job.run(
-                true,
-                Some(&Link {
-                    scope,
-                    book,
-                    up: None,
-                }),
-            ));
+            let link = Link::at_job(Either::Lifo(scope), book, opener);
+            book.add(job.run(true, Some(&link)));
         }),
         Either::Fifo(scope) => scope.spawn_broadcast(move |scope, _| {
-            let scope = Either::Fifo(scope);
-            book.add(job.run(
-                true,
-                Some(&Link {
-                    scope,
-                    book,
-                    up: None,
-                }),
-            ));
+            let link = Link::at_job(Either::Fifo(scope), book, opener);
+            book.add(job.run(true, Some(&link)));
         }),
     }
     0

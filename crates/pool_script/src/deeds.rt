@@ -4,7 +4,7 @@ ghost use Rattle.std.specs.Prelude.{ℕ, IfOk, All};
 
 use crate::bad::{Bad, Stop};
 use crate::names::Directory;
-use crate::script::{Act, Deed, Plain, Verb};
+use crate::script::{Act, Deed, Order, Plain, Shape, Verb};
 use crate::words::{call_below, digits, number, one, value};
 use std::alloc::Global;
 
@@ -91,6 +91,11 @@ fn act(names: &Directory, job: usize, words: &[&str]) -> Result<Act, Bad>
         ["install", call] => Ok(Act::One(Verb::Install, call_below(names, job, call)?)),
         ["spawn", call] => Ok(Act::One(Verb::Spawn, call_below(names, job, call)?)),
         ["spawn_fifo", call] => Ok(Act::One(Verb::SpawnFifo, call_below(names, job, call)?)),
+        ["scope", body] => scope(names, job, Order::Lifo, false, body),
+        ["scope_fifo", body] => scope(names, job, Order::Fifo, false, body),
+        ["in_place_scope", body] => scope(names, job, Order::Lifo, true, body),
+        ["in_place_scope_fifo", body] => scope(names, job, Order::Fifo, true, body),
+        ["into", call] => Ok(Act::Into(call_below(names, job, call)?)),
         ["join", second, "with", "install", first] => {
             let first = call_below(names, job, first)?;
             Ok(Act::JoinInstall(first, call_below(names, job, second)?))
@@ -105,6 +110,20 @@ fn act(names: &Directory, job: usize, words: &[&str]) -> Result<Act, Bad>
         }
         _ => Ok(Act::Plain(plain(names, words)?.ok_or(Bad::NoSuchDeed)?)),
     }
+}
+
+// A scope of this order, in place or not, whose body the word names.
+fn scope(
+    names: &Directory,
+    job: usize,
+    order: Order,
+    in_place: bool,
+    body: &str,
+) -> Result<Act, Bad>
+    ensures { IfOk result (λ a. All (GoesDown job) (calls_of a)) }
+{
+    let shape = Shape { order, in_place };
+    Ok(Act::Scope(shape, call_below(names, job, body)?))
 }
 
 // What is done without a call. None where the words are another's.

@@ -29,9 +29,12 @@ impl Act {
     {
         match self {
             Act::Plain(plain) => plain.adds(own, turn),
-            Act::One(Verb::Spawn | Verb::SpawnFifo, _) | Act::Serve(..) => Some(0),
-            Act::One(Verb::Install, _) | Act::Join(..) | Act::JoinWith(..) | Act::JoinInstall(..) =>
-                None,
+            Act::One(Verb::Spawn | Verb::SpawnFifo, _) | Act::Serve(..) | Act::Into(_) => Some(0),
+            Act::One(Verb::Install, _)
+            | Act::Join(..)
+            | Act::JoinWith(..)
+            | Act::JoinInstall(..)
+            | Act::Scope(..) => None,
         }
     }
 }

@@ -2,7 +2,7 @@
 use crate::play::{Play, trouble_of, trouble_of_both};
 use crate::stage::{Here, Stage, Told, Trouble};
 use pool_script::script::{Ask, Call, Line, Plain, Step, Verb};
-use rayon_core::{CallError, JobKind, PoolRef, Refusal};
+use rayon_core::{CallError, PoolRef, Refusal};
 use std::alloc::{AllocError, Global};
 use std::fmt::Write;
 use std::sync::{Arc, Wait};
@@ -246,7 +246,7 @@ impl Actor {
     ) -> Result<bool, AllocError> {
         match spawned {
             Ok(()) => Ok(false),
-            Err((refusal, job)) => self.tell(false, Trouble::Refused(refusal, job.tag()), said),
+            Err((refusal, job)) => self.tell(false, Trouble::Refused(refusal, job.name()), said),
         }
     }
 

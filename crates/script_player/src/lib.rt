@@ -6,6 +6,7 @@ mod error;
 mod house;
 mod play;
 mod run;
+mod scopes;
 mod stage;
 
 pub use run::play_script;

@@ -15,7 +15,7 @@ docs/SCRIPTS.md is the language.
 import random
 import sys
 
-from script_model import NO_LIMIT, call_of
+from script_model import NO_LIMIT, SCOPES, call_of
 
 KINDS = ("exact", "many", "meet", "deep")
 # How many runs a step may lead to, faults left out.
@@ -54,11 +54,14 @@ class Deed:
 
 
 class Jobs:
-    """The jobs of a script: each calls those below it, or itself with less."""
+    """The jobs of a script: each calls those below it, or itself with less. Some belong to a scope in each run."""
 
     def __init__(self, draw, one_worker, told, faults):
         self.draw, self.one_worker, self.told, self.faults = draw, one_worker, told, faults
         self.names = [f"j{at}" for at in range(draw.randint(2, 7))]
+        self.has_scopes = draw.random() < 0.7
+        self.inside = {name for name in self.names[1:] if self.has_scopes and draw.random() < 0.5}
+        self.outside = set(self.names) - self.inside
         self.deeds, self.counts = {}, {}
         for at in reversed(range(len(self.names))):
             self.deeds[self.names[at]] = [*self.marks(at), *(self.deed(at) for _ in range(draw.randint(1, 4)))]
@@ -92,7 +95,8 @@ class Jobs:
             prefix = f"below {high}: "
         if times > 1:
             prefix += f"{times} times: "
-        if self.faults and draw.random() < 0.3:
+        # On many workers it is not known which fault of a scope comes first, so only its body has one.
+        if self.faults and (draw.random() < 0.3 or self.names[at] in self.inside and not self.one_worker):
             prefix += "try: "
         act, calls = self.act(at)
         return Deed(low, high, times, prefix + act, calls)
@@ -102,7 +106,12 @@ class Jobs:
         draw, chance = self.draw, self.draw.random()
         if chance < 0.48:
             return self.plain(chance), []
-        one, other = self.call(at), self.call(at)
+        chance_of_scope = 0.7 if self.names[at] in self.inside else 0.35 * self.has_scopes
+        if draw.random() < chance_of_scope and (found := self.scope(at)):
+            return found
+        one, other = self.call(at, self.outside), self.call(at, self.outside)
+        if one is None:
+            return self.plain(draw.uniform(0, 0.48)), []
         if chance < 0.56:
             return f"install {one}", [one]
         if chance < 0.72:
@@ -116,6 +125,18 @@ class Jobs:
         if self.faults and draw.random() < 0.4:
             one = f"fails({draw.choice(NUMBERS)})"
         return f"{draw.choice(SPAWNS)} {one}", [one]
+
+    def scope(self, at):
+        """What opens a scope, or spawns into that of the run, and which job it names; None where there is none."""
+        draw, names = self.draw, self.names
+        if names[at] not in self.inside or draw.random() < 0.3:
+            body = self.call(at, names)
+            return body and (f"{draw.choice(SCOPES)} {body}", [body])
+        if self.faults and self.one_worker and draw.random() < 0.2:
+            job = f"fails({draw.choice(NUMBERS)})"
+        else:
+            job = self.call(at, names if self.one_worker or not self.faults else self.inside)
+        return job and (f"into {job}", [job])
 
     def plain(self, chance):
         draw = self.draw
@@ -135,11 +156,14 @@ class Jobs:
             return self.draw.choice(["index", "bit"])
         return self.draw.choice([*NUMBERS, str(self.draw.randint(0, 30))])
 
-    def call(self, at):
-        """A job below, with a number, or the job itself with less."""
-        draw, below = self.draw, self.names[at + 1 :]
-        if not below or draw.random() < 0.25:
-            return f"{self.names[at]}(n-{draw.choice([1, 1, 1, 2])})"
+    def call(self, at, among):
+        """A job of these that stands below, with a number, or the job itself with less; None where there is none."""
+        draw, own = self.draw, self.names[at]
+        below = [name for name in self.names[at + 1 :] if name in among]
+        if own in among and (not below or draw.random() < 0.25):
+            return f"{own}(n-{draw.choice([1, 1, 1, 2])})"
+        if not below:
+            return None
         name, form = draw.choice(below), draw.choice(NUMBERS_OF_CALLS)
         return f"{name}({form})" if form else name
 
@@ -156,8 +180,9 @@ class Jobs:
     def pick(self, most):
         """A job that leads to at most so many runs, and mostly to several; None where none was found."""
         least = self.draw.choice([1, 4, 12])
+        names = [name for name in self.names[:3] if name in self.outside]
         for turn in range(40):
-            name, own = self.draw.choice(self.names[:3]), self.draw.choice([0, 1, 2, 3, 3, 4, 5, 6, 8])
+            name, own = self.draw.choice(names), self.draw.choice([0, 1, 2, 3, 3, 4, 5, 6, 8])
             if (least if turn < 20 else 1) <= self.count(name, own) <= most:
                 return f"{name}({own})"
         return None

@@ -11,6 +11,7 @@ import sys
 
 NO_LIMIT = 10**9
 MODULUS = 2**64
+SCOPES = ("scope", "scope_fifo", "in_place_scope", "in_place_scope_fifo")
 TOO_DEEP, ENDED = "TooDeep", "Ended"
 sys.setrecursionlimit(100_000)
 
@@ -61,19 +62,26 @@ class Deed:
                 self.times = int(words[0])
 
 
-class Task:
-    """A job in a queue: whether a call waits for it, whether that came from outside, and its end."""
+class Scope:
+    """An open scope: its jobs that were spawned in order, how many have not run, and what the others ended with."""
 
-    def __init__(self, call, waited, outside):
-        self.call, self.waited, self.outside = call, waited, outside
+    def __init__(self, in_order):
+        self.in_order, self.listed, self.open, self.sum, self.first = in_order, [], 0, 0, None
+
+
+class Task:
+    """A job in a queue: whether a call waits for it, whether that came from outside, its scope, and its end."""
+
+    def __init__(self, call, waited, outside, scope=None):
+        self.call, self.waited, self.outside, self.scope = call, waited, outside, scope
         self.done, self.answer, self.fault = False, None, None
 
 
 class Run:
-    """A run of a job on a worker with so many levels left."""
+    """A run of a job on a worker with so many levels left, which spawns into this scope."""
 
-    def __init__(self, pool, call, levels, migrated):
-        self.pool, self.model, self.call = pool, pool.model, call
+    def __init__(self, pool, call, levels, migrated, scope=None):
+        self.pool, self.model, self.call, self.scope = pool, pool.model, call, scope
         self.levels, self.migrated = levels, migrated
 
     def answer(self):
@@ -96,14 +104,40 @@ class Run:
         """What is added by this deed."""
         if words[0] == "join":
             return self.join(words, turn)
-        if words[0] not in ("install", "spawn", "spawn_fifo"):
+        if words[0] not in ("install", "spawn", "spawn_fifo", "into", *SCOPES):
             return self.plain(words, turn, self.migrated)
         call = call_of(words[1], self.call[1], turn)
         if call and words[0] == "install":
             return self.install(call, self.levels)
-        if call:
-            self.pool.spawn(Task(call, False, False), in_order=words[0] == "spawn_fifo")
+        if call and words[0] in SCOPES:
+            return self.open_scope(call, Scope(words[0].endswith("fifo")))
+        if call and words[0] == "into":
+            self.into(call)
+        elif call:
+            self.pool.spawn(Task(call, False, False), self.pool.listed if words[0] == "spawn_fifo" else None)
         return 0
+
+    def open_scope(self, body, scope):
+        """What is added by a scope: the body runs, and then tasks until no job of the scope is left."""
+        if self.levels == 0:
+            raise Fault(shown(TOO_DEEP, body))
+        value = 0
+        try:
+            value = Run(self.pool, body, self.levels - 1, False, scope).answer()
+        except Fault as raised:
+            scope.first = scope.first or raised
+        while scope.open:
+            self.pool.execute(self.pool.take(), self.levels - 1)
+        if scope.first:
+            raise scope.first
+        return value + scope.sum
+
+    def into(self, call):
+        """Spawns a job into the scope of the run, if it has one."""
+        if self.scope:
+            self.scope.open += 1
+            listed = self.scope.listed if self.scope.in_order else None
+            self.pool.spawn(Task(call, True, False, self.scope), listed)
 
     def install(self, call, levels):
         if levels == 0:
@@ -152,9 +186,6 @@ class Run:
 class Pool:
     """A pool of one worker: its levels, its order, its queue, the jobs spawned in order, and its faults."""
 
-    # A task that stands for the first of the jobs that were spawned in order.
-    TOKEN = None
-
     def __init__(self, model, words):
         self.model = model
         if words[2] != "1":
@@ -165,26 +196,31 @@ class Pool:
         self.tasks, self.listed = [], []
         self.first, self.faults, self.has_ended = None, 0, False
 
-    def spawn(self, task, in_order):
-        if in_order:
-            self.listed.append(task)
-        self.tasks.append(self.TOKEN if in_order else task)
+    def spawn(self, task, listed):
+        """Queues a task, or puts it last into a list, which then stands in the queue for its first one."""
+        if listed is not None:
+            listed.append(task)
+        self.tasks.append(task if listed is None else listed)
 
     def take(self):
         """The task that is next, or the job that it stands for."""
         task = self.tasks.pop(self.next)
-        return self.listed.pop(0) if task is self.TOKEN else task
+        return task.pop(0) if isinstance(task, list) else task
 
     def execute(self, task, levels):
         """Runs a task to its end."""
         try:
-            task.answer = Run(self, task.call, levels, task.outside).answer()
+            task.answer = Run(self, task.call, levels, task.outside, task.scope).answer()
         except Fault as fault:
             task.fault = fault
             if not task.waited:
                 self.faults += 1
                 self.first = self.first or fault
         task.done = True
+        if task.scope:
+            task.scope.open -= 1
+            task.scope.sum += task.answer or 0
+            task.scope.first = task.scope.first or task.fault
 
     def join(self, first, second, levels, outside):
         """Both answers: the first side runs, and then tasks until the second side is done."""

@@ -1,0 +1,135 @@
+//! Tests of what broadcasts are made of: the lists of their pieces by worker, and the book of what these answered. The
+//! function with a clause shows what a caller may conclude from the calls' contracts.
+ghost use Rattle.std.proofs.Common.{rules};
+ghost use Rattle.std.specs.Prelude.{◌≡◌, ◌+◌, IfOk, IfSome};
+
+use rayon_broadcasts::{BroadcastBook, BroadcastLists, NoAnswers, Unpushed};
+use rayon_jobs::{Done, JobKind, NoHandler};
+use rayon_words::Refusal;
+use std::test::*;
+
+// A job whose piece of index i answers its number and i. Its fault may be any number.
+#[derive(Drop)]
+struct Share(u64);
+
+impl JobKind for Share {
+    type Tag = u64;
+
+    type Output = u64;
+
+    type Fault = u64;
+
+    type Handler = NoHandler;
+
+    ghost answers = { λ t r. Unit {0} };
+
+    ghost answers_on = { λ plain t i n r. IfOk r (λ o. o ≡ t + i) };
+
+    ghost tag_of = { λ j. j.0 };
+
+    ghost same_answers = { λ t u e. Prim.search rules };
+
+    fn tag(&self) -> u64 {
+        self.0
+    }
+}
+
+// What a whole run of the job with this number answers.
+fn whole(number: u64) -> Done<Share> {
+    Done::of_run(number, Ok(number))
+}
+
+// The output of the piece of this index, where the broadcast with this number has one.
+fn share_of(book: &mut BroadcastBook<Share>, number: u64, index: usize) -> Option<u64>
+    ensures { IfSome result (λ o. o ≡ number + index) }
+{
+    let outputs = book.outputs(&number).ok()?;
+    let output = outputs.get(index)?;
+    Some(*output)
+}
+
+#[test]
+fn pieces_are_taken_by_worker_the_oldest_first(rt: HostRuntime) -> Result<(), Fail> {
+    let mut lists = BroadcastLists::new(rt.alloc(), 3)?;
+    assert_eq!(rt; lists.workers(), 3);
+    assert!(rt; lists.is_empty(1));
+    for broadcast in [10, 20] {
+        let pieces = Vec::from_slice(rt.alloc(), &[broadcast, broadcast + 1, broadcast + 2])?;
+        assert!(rt; lists.push_each(pieces).is_ok());
+    }
+    assert_eq!(rt; lists.take_oldest(1), Some(11));
+    assert_eq!(rt; lists.take_oldest(0), Some(10));
+    assert_eq!(rt; lists.take_oldest(0), Some(20));
+    assert_eq!(rt; lists.take_oldest(0), None);
+    assert!(rt; lists.is_empty(0));
+    assert!(rt; !lists.is_empty(1));
+    assert_eq!(rt; lists.take_oldest(2), Some(12));
+    let pieces = Vec::from_slice(rt.alloc(), &[30, 31, 32])?;
+    assert!(rt; lists.push_each(pieces).is_ok());
+    assert_eq!(rt; lists.take_oldest(0), Some(30));
+    assert_eq!(rt; lists.take_oldest(1), Some(21));
+    assert_eq!(rt; lists.take_oldest(1), Some(31));
+    assert_eq!(rt; lists.take_oldest(2), Some(22));
+    assert_eq!(rt; lists.take_oldest(2), Some(32));
+    assert_eq!(rt; lists.take_oldest(3), None);
+    assert!(rt; lists.is_empty(3));
+    Ok(())
+}
+
+#[test]
+fn pieces_of_a_wrong_number_come_back(rt: HostRuntime) -> Result<(), Fail> {
+    for workers in 0..4usize {
+        let mut lists = BroadcastLists::new(rt.alloc(), workers)?;
+        for numbers in [[].as_slice(), [5].as_slice(), [5, 6, 7].as_slice()] {
+            let pieces = Vec::from_slice(rt.alloc(), numbers)?;
+            match lists.push_each(pieces) {
+                Ok(()) => assert_eq!(rt; numbers.len(), workers),
+                Err(Unpushed::WrongNumber(back)) => {
+                    assert!(rt; numbers.len() != workers);
+                    assert_eq!(rt; back.as_slice(), numbers);
+                }
+                Err(Unpushed::NoRoom(_)) => panic!(rt; "no room"),
+            }
+        }
+        for worker in 0..workers {
+            let pushed: Option<u64> = lists.take_oldest(worker);
+            assert_eq!(rt; pushed.is_some(), workers == 1 || workers == 3);
+            assert!(rt; lists.is_empty(worker));
+        }
+    }
+    Ok(())
+}
+
+#[test]
+fn too_many_workers_are_refused(rt: HostRuntime) -> Result<(), Fail> {
+    let lists: Result<BroadcastLists<u64>, Refusal> = BroadcastLists::new(rt.alloc(), usize::MAX);
+    assert!(rt; matches!(lists, Err(Refusal::NoRoom)));
+    let book: Result<BroadcastBook<Share>, Refusal> = BroadcastBook::new(rt.alloc(), usize::MAX);
+    assert!(rt; matches!(book, Err(Refusal::NoRoom)));
+    Ok(())
+}
+
+#[test]
+fn a_place_takes_one_result(rt: HostRuntime) -> Result<(), Fail> {
+    let mut book = BroadcastBook::new(rt.alloc(), 2)?;
+    assert!(rt; book.store(1, whole(5)).is_none());
+    assert!(rt; matches!(book.store(1, whole(6)), Some(back) if *back.tag() == 6));
+    assert!(rt; matches!(book.store(2, whole(7)), Some(back) if *back.tag() == 7));
+    assert!(rt; matches!(book.outputs(&5), Err(NoAnswers::Missing)));
+    assert!(rt; matches!(book.store(1, whole(8)), Some(back) if *back.tag() == 8));
+    assert!(rt; matches!(book.outputs(&5), Ok(outputs) if outputs.is_empty()));
+    Ok(())
+}
+
+#[test]
+fn the_first_place_without_an_output_decides(rt: HostRuntime) -> Result<(), Fail> {
+    let mut first = BroadcastBook::new(rt.alloc(), 2)?;
+    assert!(rt; first.store(0, whole(5)).is_none());
+    assert!(rt; matches!(first.outputs(&5), Err(NoAnswers::Foreign)));
+    let mut second = BroadcastBook::new(rt.alloc(), 2)?;
+    assert!(rt; second.store(1, whole(5)).is_none());
+    assert!(rt; matches!(second.outputs(&5), Err(NoAnswers::Missing)));
+    let mut none = BroadcastBook::new(rt.alloc(), 0)?;
+    assert_eq!(rt; share_of(&mut none, 5, 0), None);
+    Ok(())
+}

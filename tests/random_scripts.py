@@ -18,6 +18,7 @@ import sys
 from script_model import NO_LIMIT, SCOPES, call_of
 
 KINDS = ("exact", "many", "meet", "deep")
+ONE_WORKER = ("exact", "deep")
 # How many runs a step may lead to, faults left out.
 MOST_RUNS = {"exact": 400, "many": 600, "meet": 300, "deep": 400}
 WORKERS = {"many": "1 2 3 4 8", "meet": "2 3 4 8"}
@@ -56,8 +57,8 @@ class Deed:
 class Jobs:
     """The jobs of a script: each calls those below it, or itself with less. Some belong to a scope in each run."""
 
-    def __init__(self, draw, one_worker, told, faults):
-        self.draw, self.one_worker, self.told, self.faults = draw, one_worker, told, faults
+    def __init__(self, draw, kind, told, faults):
+        self.draw, self.one_worker, self.told, self.faults = draw, kind in ONE_WORKER, told, faults
         self.names = [f"j{at}" for at in range(draw.randint(2, 7))]
         self.has_scopes = draw.random() < 0.7
         self.inside = {name for name in self.names[1:] if self.has_scopes and draw.random() < 0.5}
@@ -68,6 +69,36 @@ class Jobs:
         # A job that others detach, so that faults are kept that end no other run.
         self.names.append("fails")
         self.deeds["fails"] = [Deed(0, NO_LIMIT, 1, "fault n", [])]
+        self.bodies = ["b0", "b1"]
+        for name in self.bodies:
+            self.deeds[name] = [*self.before(kind), *(self.into() for _ in range(draw.randint(0, 4)))]
+
+    def before(self, kind):
+        """What the body of a scope in place does on its thread before it spawns, since its jobs run meanwhile."""
+        draw = self.draw
+        for _ in range(draw.randint(0, 3)):
+            low, high, times, prefix = self.prefixes()
+            plain = [f"add {self.value()}", "add n+1", "open g0", "open g2 n"]
+            # On one worker a job that others have detached may run at the same time.
+            plain += [] if self.one_worker else ["note n", "note 88"]
+            plain += ["fault n+4"] * self.faults
+            act = draw.choice(plain)
+            if kind == "deep" and draw.random() < 0.25:
+                act = draw.choice(["install fails", "spawn j0", "join j1 fails(n)", "scope j1", "serve s 0"])
+            if act == "fault n+4" and draw.random() < 0.6 or kind == "deep" and draw.random() < 0.7:
+                prefix += "try: "
+            yield Deed(low, high, times, prefix + act, [])
+
+    def into(self):
+        """A deed of the body of a scope in place that spawns into it."""
+        low, high, times, prefix = self.prefixes()
+        among = self.names if self.one_worker or not self.faults else [*self.inside]
+        among = [name for name in self.names if name in among and (self.faults or name != "fails")]
+        if not among:
+            return Deed(low, high, times, f"{prefix}add 10", [])
+        name, form = self.draw.choice(among), self.draw.choice(NUMBERS_OF_CALLS)
+        call = f"{name}({form})" if form else name
+        return Deed(low, high, times, f"{prefix}into {call}", [call])
 
     def marks(self, at):
         """Deeds by which the order of the runs is seen, and what they were told."""
@@ -79,11 +110,12 @@ class Jobs:
             yield Deed(0, NO_LIMIT, 1, f"{self.draw.choice(SPAWNS)} fails(n+{10 * (at + 1)})", ["fails(n)"])
 
     def lines(self):
-        for name in self.names:
+        for name in [*self.bodies, *self.names]:
             yield f"job {name}"
             yield from (f"  {deed.text}" for deed in self.deeds[name])
 
-    def deed(self, at):
+    def prefixes(self):
+        """For which numbers a deed is done, how often, and how that is written."""
         draw = self.draw
         low, high, times, prefix = 0, NO_LIMIT, draw.choice([1, 1, 1, 1, 2, 3]), ""
         chance = draw.random()
@@ -95,6 +127,11 @@ class Jobs:
             prefix = f"below {high}: "
         if times > 1:
             prefix += f"{times} times: "
+        return low, high, times, prefix
+
+    def deed(self, at):
+        draw = self.draw
+        low, high, times, prefix = self.prefixes()
         # On many workers it is not known which fault of a scope comes first, so only its body has one.
         if self.faults and (draw.random() < 0.3 or self.names[at] in self.inside and not self.one_worker):
             prefix += "try: "
@@ -177,10 +214,10 @@ class Jobs:
             self.counts[name, own] = found
         return self.counts[name, own]
 
-    def pick(self, most):
+    def pick(self, most, names=None):
         """A job that leads to at most so many runs, and mostly to several; None where none was found."""
         least = self.draw.choice([1, 4, 12])
-        names = [name for name in self.names[:3] if name in self.outside]
+        names = names or [name for name in self.names[:3] if name in self.outside]
         for turn in range(40):
             name, own = self.draw.choice(names), self.draw.choice([0, 1, 2, 3, 3, 4, 5, 6, 8])
             if (least if turn < 20 else 1) <= self.count(name, own) <= most:
@@ -197,13 +234,13 @@ class Drawing:
 
     def __init__(self, kind, draw):
         self.kind, self.draw = kind, draw
-        self.one_worker = kind in ("exact", "deep")
+        self.one_worker = kind in ONE_WORKER
         self.breadth_first = draw.random() < (0.35 if self.one_worker else 0.15)
         faults = draw.random() < 0.5
         # Where a first side faults, or a worker takes its oldest first, the original says of a second side that its
         # own worker runs that it migrated.
         told = kind == "deep" or self.one_worker and not faults and not self.breadth_first
-        self.jobs = Jobs(draw, self.one_worker, told, faults or kind == "deep")
+        self.jobs = Jobs(draw, kind, told, faults or kind == "deep")
         self.pools = [f"p{at}" for at in range(1 if self.one_worker else draw.choice([1, 1, 2, 3]))]
         self.threads = [f"t{at}" for at in range(draw.randint(1, 3))]
         if self.one_worker or draw.random() < 0.6:
@@ -238,6 +275,8 @@ class Drawing:
         pool, one, other = draw.choice(self.pools), self.jobs.pick(most), self.jobs.pick(most)
         if one is None or other is None:
             raise NoScript
+        if draw.random() < 0.25:
+            return self.scope(pool)
         chance = draw.random()
         if chance < 0.35:
             return f"install {pool} {one}"
@@ -246,6 +285,15 @@ class Drawing:
         if chance < 0.63:
             return f"{draw.randint(2, 4)} times: install {pool} {one}"
         return f"{draw.choice(SPAWNS)} {pool} {one}"
+
+    def scope(self, pool):
+        """A scope that is opened from outside, in place or with a body on a worker."""
+        verb, prefix = self.draw.choice(SCOPES), self.draw.choice(["", "", "", "2 times: "])
+        in_place = verb.startswith("in_place")
+        body = self.jobs.pick(MOST_RUNS[self.kind], self.jobs.bodies if in_place else self.jobs.names[:3])
+        if body is None:
+            raise NoScript
+        return f"{prefix}{verb} {pool} {body}"
 
     def main(self):
         draw = self.draw

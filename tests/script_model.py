@@ -12,7 +12,8 @@ import sys
 NO_LIMIT = 10**9
 MODULUS = 2**64
 SCOPES = ("scope", "scope_fifo", "in_place_scope", "in_place_scope_fifo")
-TOO_DEEP, ENDED = "TooDeep", "Ended"
+PLAIN = ("note", "add", "fault", "open")
+TOO_DEEP, ENDED, NO_WORKER = "TooDeep", "Ended", "NoWorker"
 sys.setrecursionlimit(100_000)
 
 
@@ -65,8 +66,9 @@ class Deed:
 class Scope:
     """An open scope: its jobs that were spawned in order, how many have not run, and what the others ended with."""
 
-    def __init__(self, in_order):
-        self.in_order, self.listed, self.open, self.sum, self.first = in_order, [], 0, 0, None
+    def __init__(self, in_order, outside=False):
+        self.in_order, self.outside, self.listed = in_order, outside, []
+        self.open, self.count, self.sum, self.first = 0, 0, 0, None
 
 
 class Task:
@@ -137,7 +139,7 @@ class Run:
         if self.scope:
             self.scope.open += 1
             listed = self.scope.listed if self.scope.in_order else None
-            self.pool.spawn(Task(call, True, False, self.scope), listed)
+            self.pool.spawn(Task(call, True, self.scope.outside, self.scope), listed)
 
     def install(self, call, levels):
         if levels == 0:
@@ -183,6 +185,24 @@ class Run:
         return 0
 
 
+class Body(Run):
+    """The body of a scope in place on a thread that is no worker: its jobs are injected, and it makes no other call."""
+
+    def __init__(self, pool, call, scope):
+        super().__init__(pool, call, 0, False, scope)
+        self.injected = []
+
+    def act(self, words, turn):
+        if words[0] in PLAIN:
+            return self.plain(words, turn, False)
+        if words[0] != "into":
+            raise Fault(NO_WORKER)
+        if call := call_of(words[1], self.call[1], turn):
+            self.scope.open += 1
+            self.injected.append(Task(call, True, True, self.scope))
+        return 0
+
+
 class Pool:
     """A pool of one worker: its levels, its order, its queue, the jobs spawned in order, and its faults."""
 
@@ -219,6 +239,7 @@ class Pool:
         task.done = True
         if task.scope:
             task.scope.open -= 1
+            task.scope.count += 1
             task.scope.sum += task.answer or 0
             task.scope.first = task.scope.first or task.fault
 
@@ -236,6 +257,25 @@ class Pool:
             raise fault or task.fault
         return answer, task.answer
 
+    def scoped(self, verb, body):
+        """What a scope from outside answers: its body runs on the worker, or in place, and then its jobs do."""
+        scope, value, injected = Scope(verb.endswith("fifo"), True), 0, []
+        run = Run(self, body, self.levels, True, scope)
+        if verb.startswith("in_place"):
+            run = Body(self, body, scope)
+            injected = run.injected
+        try:
+            value = run.answer()
+        except Fault as raised:
+            scope.first = raised
+        self.drain()
+        for task in injected:
+            self.execute(task, self.levels)
+            self.drain()
+        if scope.first:
+            raise scope.first
+        return f"{value}, and {scope.sum % MODULUS} of {scope.count}"
+
     def drain(self):
         while self.tasks:
             self.execute(self.take(), self.levels)
@@ -249,6 +289,8 @@ class Pool:
         try:
             if verb in ("spawn", "spawn_fifo"):
                 return self.execute(Task(calls[0], False, True), self.levels)
+            if verb in SCOPES:
+                return self.scoped(verb, calls[0])
             if verb == "install":
                 return str(Run(self, calls[0], self.levels, True).answer())
             first = Run(self, calls[0], self.levels - 1, True)

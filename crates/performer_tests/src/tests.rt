@@ -4,8 +4,9 @@ ghost use Rattle.std.specs.Arc.{arc_value};
 ghost use Rattle.std.specs.Prelude.{◌≡◌, ◌<◌};
 
 use crate::errand::Errand;
+use rayon_guests::{Guest, Load};
 use rayon_machine_places::place::{Ending, OpenCall, Plan, Then};
-use rayon_performers::{Bench, Guest, Load, PoolHold, Registry, WorkerKit};
+use rayon_performers::{Bench, PoolHold, Registry, WorkerKit};
 use rayon_queues::XorShift64Star;
 use rayon_tasks::{Task, Work, task_parts};
 use rayon_words::Refusal;

@@ -2,7 +2,7 @@
 use crate::bad::{Bad, Stop};
 use crate::deeds::plain;
 use crate::names::Directory;
-use crate::script::{Ask, Call, Lead, Line, Number, Plain, Shown, Step, Value, Verb};
+use crate::script::{Ask, Call, Lead, Line, Number, Order, Plain, Shape, Shown, Step, Value, Verb};
 use crate::words::{call, digits};
 use std::alloc::Global;
 
@@ -59,11 +59,35 @@ fn step(names: &Directory, words: &[&str]) -> Result<Step, Bad> {
         ["start", thread] => Ok(Step::Lead(Lead::Start(names.thread(thread)?))),
         ["finish", thread] => Ok(Step::Lead(Lead::Finish(names.thread(thread)?))),
         ["do", thread] => Ok(Step::Lead(Lead::Do(names.thread(thread)?))),
+        _ => scope_or_plain(names, words),
+    }
+}
+
+// A scope on a pool, or what needs no call.
+fn scope_or_plain(names: &Directory, words: &[&str]) -> Result<Step, Bad> {
+    match words {
+        ["scope", pool, body] => scope(names, pool, Order::Lifo, false, body),
+        ["scope_fifo", pool, body] => scope(names, pool, Order::Fifo, false, body),
+        ["in_place_scope", pool, body] => scope(names, pool, Order::Lifo, true, body),
+        ["in_place_scope_fifo", pool, body] => scope(names, pool, Order::Fifo, true, body),
         _ => match plain(names, words)? {
             Some(plain) => Ok(Step::Plain(plain_outside(plain)?)),
             None => Err(Bad::NoSuchStep),
         },
     }
+}
+
+// A scope of this order on a pool, in place or not, whose body the word names.
+fn scope(
+    names: &Directory,
+    pool: &str,
+    order: Order,
+    in_place: bool,
+    body: &str,
+) -> Result<Step, Bad> {
+    let shape = Shape { order, in_place };
+    let pool = names.pool(pool)?;
+    Ok(Step::Scope(pool, shape, call_outside(names, body)?))
 }
 
 // A call of one job on a pool.

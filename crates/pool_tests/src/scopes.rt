@@ -31,16 +31,16 @@ fn outputs_stand_by_number(rt: HostRuntime) -> Result<(), Fail> {
     Ok(())
 }
 
-// Of 4,000 jobs that are spawned into one scope from wherever they run each output stands at the number that its spawn
+// Of 10,000 jobs that are spawned into one scope from wherever they run each output stands at the number that its spawn
 // was answered.
 #[test]
 fn a_tree_in_one_scope(rt: HostRuntime) -> Result<(), Fail> {
     let alloc = rt.alloc();
     for workers in [1, 2, 4, 8] {
         let pool = pool_of(&rt, alloc, workers);
-        let found = installed(&rt, alloc, &pool, Deed::Scope(Part::Tree(4_000, false)));
+        let found = installed(&rt, alloc, &pool, Deed::Scope(Part::Tree(10_000, false)));
         pool.end_and_join(&rt);
-        assert_eq!(rt; found, (Ok(4_000), 4_001, 0));
+        assert_eq!(rt; found, (Ok(10_000), 10_001, 0));
     }
     Ok(())
 }
@@ -51,10 +51,10 @@ fn a_tree_in_order_in_one_scope(rt: HostRuntime) -> Result<(), Fail> {
     let alloc = rt.alloc();
     for workers in [1, 2, 4, 8] {
         let pool = pool_of(&rt, alloc, workers);
-        let found = installed(&rt, alloc, &pool, Deed::Scope(Part::Tree(4_000, true)));
+        let found = installed(&rt, alloc, &pool, Deed::Scope(Part::Tree(10_000, true)));
         assert_eq!(rt; pool.strays(&rt), 0);
         pool.end_and_join(&rt);
-        assert_eq!(rt; found, (Ok(4_000), 4_001, 0));
+        assert_eq!(rt; found, (Ok(10_000), 10_001, 0));
     }
     Ok(())
 }

@@ -18,8 +18,8 @@ pub use environment::max_num_threads;
 pub use rayon_books::{Ended, Receipt};
 pub use rayon_jobs::{Done, JobKind, NoHandler, PoolHandler};
 pub use rayon_registry::{
-    BroadcastContext, FnContext, ForkJoin, Ids, Job, PoolId, PoolRef, Scope, ScopeCalls, ScopeFifo,
-    Waits, WorkerId, WorkerThread,
+    BroadcastContext, FnContext, ForkJoin, Ids, InPlaceCalls, Job, PoolId, PoolRef, Scope,
+    ScopeCalls, ScopeFifo, Waits, WorkerId, WorkerThread,
 };
 pub use rayon_sleep::latch::{Owner, SpinLatch};
 pub use rayon_words::{CallError, Refusal};

@@ -8,5 +8,4 @@ pub mod Recounts
 pub mod Scopes
 pub mod Spawns
 pub mod Stretches
-pub mod Visits
 pub mod Waits

@@ -13,6 +13,4 @@ pub mod Seats
 pub mod Sights
 pub mod Spawns
 pub mod Stands
-pub mod Visiting
-pub mod Visits
 pub mod Waits

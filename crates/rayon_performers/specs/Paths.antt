@@ -1,11 +1,10 @@
--- How a worker and an outside caller go along the table of places. The pool is pool 0 of the table.
+-- How a worker goes along the table of places. The pool is pool 0 of the table.
 use Rattle.std.specs.Prelude.{ℕ}
-use Rattle.rayon_machine_places.specs.declared.place.Party.TheVariants.{Worker, Caller}
+use Rattle.rayon_machine_places.specs.declared.place.Party.TheVariants.{Worker}
 use Rattle.rayon_machine_places.specs.declared.place.Move.{Move}
 use Rattle.rayon_machine_places.specs.declared.shape.PoolShape.{PoolShape}
 use Rattle.rayon_drive.specs.Paths.{Driven}
 use Rattle.rayon_performers.specs.Hands.{Hands, Does}
-use Rattle.rayon_performers.specs.Visits.{Visit, Does as CallerDoes}
 
 module _ {X G O F : Type 0} where
   -- the worker of this index, in a pool of this shape, made the acts of a path of the table, and no other: from the first
@@ -16,8 +15,3 @@ module _ {X G O F : Type 0} where
   -- the worker that has this index and its pool's shape at hand
   abbrev pub WorkerGoes : Move → Hands X G O F → Hands X G O F → Move → Type 0
   WorkerGoes m s t n = WorkerGoesIn s.shape s.index m s t n
-
-module _ {X G O F H : Type 0} where
-  -- an outside caller made the acts of a path of the table, and no other
-  abbrev pub CallerGoes : Move → Visit X G O F H → Visit X G O F H → Move → Type 0
-  CallerGoes m s t n = Driven (λ (u : Visit X G O F H) a x v. CallerDoes a x u v) (λ (u : Visit X G O F H). u.trace) s.shape (Caller 0) m s t n

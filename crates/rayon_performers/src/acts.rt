@@ -543,8 +543,9 @@ impl<J: JobKind> Bench<J> {
     }
 }
 
-// Sets the latch, if there is one.
-pub(crate) fn set_latch(latch: Option<&CoreLatch>) -> Option<(bool, LatchSeat)>
+/// Sets the latch, if there is one, by the one step that makes a seat of it. Answers whether its owner slept, and that
+/// seat.
+pub fn set_latch(latch: Option<&CoreLatch>) -> Option<(bool, LatchSeat)>
     ensures { MatchOption result (is_some latch.entry ≡ false) (λ r. SetBy ⊥ r.0 (Some (guard r.1))) }
 {
     Some(latch?.set_as_guest())

@@ -1,4 +1,4 @@
-//! Who performs the machine's acts in a running pool: its workers, and the callers outside it.
+//! What the threads of a running pool share, and the worker, who performs the machine's acts there.
 #![tactic(auto)]
 
 mod acts;
@@ -6,10 +6,8 @@ mod bench;
 mod counting;
 mod detached;
 mod fifo;
-mod guest;
 mod kit;
 mod latches;
-mod load;
 mod looks;
 mod reclaimed;
 mod registry;
@@ -18,10 +16,9 @@ mod scope_fifo;
 mod stretch;
 mod terminate;
 
+pub use acts::set_latch;
 pub use bench::{Aside, Bench};
-pub use guest::Guest;
 pub use kit::{WorkerKit, WorkerSeats};
-pub use load::Load;
 pub use rayon_atomics::terminate::TerminateCount;
 pub use reclaimed::Reclaimed;
 pub use registry::Registry;

@@ -158,7 +158,7 @@ impl<T: Drop> Registry<T> {
     }
 
     /// Where the pool's workers sleep.
-    pub(crate) fn sleep(&self) -> &Sleep
+    pub fn sleep(&self) -> &Sleep
         ensures { result.now ≡ self.now.workers }
     {
         &self.sleep
@@ -176,7 +176,7 @@ impl<T: Drop> Registry<T> {
     }
 
     /// The injector.
-    pub(crate) fn injector(&self) -> &Injector<T>
+    pub fn injector(&self) -> &Injector<T>
         ensures { result.now ≡ self.now.injector }
     {
         &self.injector
@@ -191,7 +191,7 @@ impl<T: Drop> Registry<T> {
     }
 
     /// A worker's terminate latch, if the pool has that worker.
-    pub(crate) fn terminate(&self, worker: usize) -> Option<LatchRef<'_, CoreLatch>>
+    pub fn terminate(&self, worker: usize) -> Option<LatchRef<'_, CoreLatch>>
         ensures { is_some result ≡ false → (length self.now.deques ≤ worker) × (self.now.workers ≤ worker) }
     {
         let latch: &CoreLatch = self.terminate.get(worker)?;
@@ -208,14 +208,14 @@ impl<T: Drop> Registry<T> {
     }
 
     /// A seat of the terminate count, for one party more.
-    pub(crate) fn count_seat(&self) -> CountSeat
+    pub fn count_seat(&self) -> CountSeat
         ensures { result.table_id ≡ self.now.count }
     {
         self.terminate_count.guest_seat()
     }
 
     /// Takes a unit of the terminate count. Refused `Ended`, `Full`.
-    pub(crate) fn increment_terminate_count<R: Wait>(
+    pub fn increment_terminate_count<R: Wait>(
         &self,
         rt: &R,
         seat: &mut CountSeat,
@@ -229,7 +229,7 @@ impl<T: Drop> Registry<T> {
     }
 
     /// Gives a unit of the terminate count back. True exactly if it was the last.
-    pub(crate) fn decrement_terminate_count<R: Wait>(&self, rt: &R, seat: &mut CountSeat) -> bool
+    pub fn decrement_terminate_count<R: Wait>(&self, rt: &R, seat: &mut CountSeat) -> bool
         requires { seat.old.table_id ≡ self.now.count }
         ensures table { seat.new.table_id ≡ seat.old.table_id }
         ensures lowered { GivesUnit true result (teller seat.old) (teller seat.new) }

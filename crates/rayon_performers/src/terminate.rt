@@ -32,8 +32,8 @@ impl PoolHold {
         PoolHold { seat }
     }
 
-    // It is given back, by this seat, which has made no step yet.
-    pub(crate) fn spend(self) -> CountSeat
+    /// It is given back, by this seat, which has made no step yet.
+    pub fn spend(self) -> CountSeat
         ensures count { result.table_id ≡ self }
         ensures seat { teller result ≡ novice }
     {

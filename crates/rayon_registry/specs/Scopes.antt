@@ -9,12 +9,14 @@ use Rattle.rayon_machine_places.specs.declared.shape.PoolShape.{PoolShape}
 use Rattle.rayon_drive.specs.Traces.{AddsRun}
 use Rattle.rayon_drive.specs.declared.trace.Log.{Log}
 use Rattle.rayon_tasks.specs.Tickets.{TicketOf}
+use Rattle.rayon_registry.specs.declared.ids.PoolId.{PoolId}
 use Rattle.rayon_registry.specs.Acts.{ScopeLeft, ScopeOpened, Scoped}
 use Rattle.rayon_registry.specs.Worker.{Worker as WorkerValue}
 
--- a scope, as it is lent: the number of its call and whose call it is, a share of the call's ticket, whether it keeps receipts,
--- and those that it has kept
+-- a scope, as it is lent: its pool, the number of its call and whose call it is, a share of the call's ticket, whether it keeps
+-- receipts, and those that it has kept
 pub record ScopeValue (G : Type 0) : Type 0 where
+  pub pool : PoolId
   pub call : ℕ
   pub owner : Party
   pub ticket : Option TicketOf

@@ -5,8 +5,9 @@ ghost use Rattle.std.specs.Prelude.{◌≡◌, ◌<◌, max, length, IfOk, IfErr
 use crate::faults::{Handlers, SharedFaults};
 use crate::ids::PoolId;
 use crate::pool_ref::PoolRef;
+use rayon_guests::Guest;
 use rayon_jobs::JobKind;
-use rayon_performers::{Guest, PoolHold, Registry, WorkerKit};
+use rayon_performers::{PoolHold, Registry, WorkerKit};
 use rayon_tasks::Task;
 use rayon_words::Refusal;
 use std::alloc::{AllocFailed, Global};

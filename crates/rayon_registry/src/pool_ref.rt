@@ -1,6 +1,6 @@
 //! What stands for a pool on any thread, and the calls that are made on it from outside.
 ghost use Rattle.rayon_jobs.specs.Faults.{Agrees};
-ghost use Rattle.rayon_performers.specs.Visits.{plan_of};
+ghost use Rattle.rayon_guests.specs.Visits.{plan_of};
 ghost use Rattle.rayon_registry.specs.Answers.{joined_pair, InstallAnswers, JoinAnswers};
 ghost use Rattle.std.specs.Arc.{arc_value};
 ghost use Rattle.std.specs.Prelude.{◌≡◌, ◌⊎◌, ◌<◌, ℕ, Result, Ok, Err, IfOk, IfErr};
@@ -9,9 +9,9 @@ use crate::answers::{install_answer, join_answer};
 use crate::faults::SharedFaults;
 use crate::ids::PoolId;
 use crate::pool_parts::{faults_of, shared_of};
+use rayon_guests::{Guest, Load};
 use rayon_jobs::{JobKind, Lost, claimed};
 use rayon_machine_places::place::{OpenCall, Party, Plan};
-use rayon_performers::{Guest, Load};
 use rayon_tasks::{Task, Ticket};
 use rayon_words::{CallError, Refusal};
 use std::alloc::Global;

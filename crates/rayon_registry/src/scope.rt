@@ -16,14 +16,14 @@ ghost use Rattle.rayon_registry.specs.Acts.{CallMade, HandedBack, ScopeLeft, Sco
 ghost use Rattle.rayon_registry.specs.Scopes.{scopes_by};
 ghost use Rattle.rayon_registry.specs.Worker.{EndedCall, Kept};
 ghost use Rattle.rayon_tasks.specs.Tickets.{TicketOf};
-ghost use Rattle.std.specs.Prelude.{◌≡◌, ◌⊎◌, ℕ, ◌≤◌, ◌<◌, [], ◌∷◌, ◌++◌, ◌+◌, ◌-◌, ◌==◌, Bool, List, None, Ok, Err, Some, IfOk, IfErr, MatchResult, suc, true};
+ghost use Rattle.std.specs.Prelude.{◌≡◌, ◌⊎◌, ℕ, ◌≤◌, ◌<◌, [], ◌∷◌, ◌++◌, ◌+◌, ◌-◌, ◌==◌, Bool, List, None, Ok, Err, Some, IfOk, IfErr, IfSome, MatchResult, suc, true};
 
 use crate::answers::scope_answer;
 use crate::ids::PoolId;
 use crate::job::Waits;
 use crate::join::Sides;
 use crate::worker_thread::{Lent, WorkerThread};
-use rayon_books::{Ended, NoOutputs, Receipt, are_met};
+use rayon_books::{Ended, NoOutputs, Outcome, Receipt, are_met};
 use rayon_jobs::{Done, JobKind};
 use rayon_machine_places::place::{Ending, Entry, Move, OpenCall, Party, Place, Target};
 use rayon_tasks::{Call, Ticket};
@@ -36,13 +36,13 @@ use std::sync::Wait;
 /// receipt of each job that the body spawns. Contracts see these receipts, and of what call the scope is.
 #[derive(Drop)]
 pub struct Scope<J: JobKind> {
-    pool: PoolId,
-    call: u64,
-    owner: Party,
-    // a share of the ticket of the scope's call, but while a worker has it at hand to spawn
-    ticket: Option<Ticket<J>>,
-    keeps: bool,
-    receipts: Vec<Receipt<J::Tag>>,
+    pub(crate) pool: PoolId,
+    pub(crate) call: u64,
+    pub(crate) owner: Party,
+    // a share of the ticket of the scope's call, but while somebody has it at hand to spawn
+    pub(crate) ticket: Option<Ticket<J>>,
+    pub(crate) keeps: bool,
+    pub(crate) receipts: Vec<Receipt<J::Tag>>,
 }
 
 /// A scope whose jobs are spawned into it in order. rayon-core's is a type of its own; here any scope takes both kinds
@@ -50,14 +50,15 @@ pub struct Scope<J: JobKind> {
 pub type ScopeFifo<J> = Scope<J>;
 
 impl<J: JobKind> Model for Scope<J> {
+    ghost use Rattle.rayon_guests.specs.Visits.{OwnedBy};
     ghost use Rattle.rayon_performers.specs.Marks.{IsScope, scope_in};
     ghost use Rattle.rayon_registry.specs.Scopes.{ScopeValue};
 
     ghost Value = { ScopeValue J.Tag };
 
-    ghost view = { λ s. record { call = s.call; owner = s.owner; ticket = s.ticket; keeps = s.keeps; receipts = s.receipts.items } };
+    ghost view = { λ s. record { pool = s.pool; call = s.call; owner = s.owner; ticket = s.ticket; keeps = s.keeps; receipts = s.receipts.items } };
 
-    ghost invariant = { λ s. IsScope (scope_in s.ticket) s.call };
+    ghost invariant = { λ s. IsScope (scope_in s.ticket) s.call × OwnedBy s.owner s.ticket };
 }
 
 impl<J: JobKind> Scope<J> {
@@ -74,6 +75,7 @@ impl<J: JobKind> Scope<J> {
         ensures entered { IfOk result (λ n. (u : TicketOf) × (k : ℕ) × (self.old.ticket ≡ Some u) × Entered by.old.shape (Worker 0 by.old.seat) self.old.call self.old.owner k by.old.acts by.new.acts × (by.new ≡ record by.old { pushed = by.old.pushed ++ entered_task job u k n ∷ []; left = by.old.left ++ entered_task job u k n ∷ []; acts = by.new.acts })) }
         ensures receipt { IfOk result (λ n. self.old.keeps ≡ true → self.new.receipts ≡ self.old.receipts ++ record { number = n; tag = J.tag_of job; place = None } ∷ []) }
         ensures scope { self.new ≡ record self.old { receipts = self.new.receipts } }
+        ensures pool { IfOk result (λ _. by.old.id.pool ≡ self.old.pool) }
         ensures back { IfErr result (λ e. (e.1 ≡ job) × (self.new ≡ self.old)) }
         ensures path { IfErr result (λ _. HandedBack by.old.shape (Worker 0 by.old.seat) (entering self.old.call self.old.owner) by.old.acts by.new.acts) }
         ensures kept { IfErr result (λ _. by.new ≡ record by.old { acts = by.new.acts }) }
@@ -114,6 +116,7 @@ impl<J: JobKind> Scope<J> {
         ensures entered { IfOk result (λ _. (u : TicketOf) × (k : ℕ) × (m : ℕ) × (self.old.ticket ≡ Some u) × EnteredInOrder by.old.shape (Worker 0 by.old.seat) (entry_of self.old.call self.old.owner k) m by.old.acts by.new.acts × (by.new ≡ record by.old { pushed = by.old.pushed ++ scope_token u by.old.seat m ∷ []; left = by.old.left ++ scope_token u by.old.seat m ∷ []; acts = by.new.acts })) }
         ensures receipt { IfOk result (λ n. self.old.keeps ≡ true → self.new.receipts ≡ self.old.receipts ++ record { number = n; tag = J.tag_of job; place = None } ∷ []) }
         ensures scope { self.new ≡ record self.old { receipts = self.new.receipts } }
+        ensures pool { IfOk result (λ _. by.old.id.pool ≡ self.old.pool) }
         ensures back { IfErr result (λ e. (e.1 ≡ job) × (self.new ≡ self.old)) }
         ensures path { IfErr result (λ _. (m : ℕ) × HandedBack by.old.shape (Worker 0 by.old.seat) (λ k. plans.Feed (into (entry_of self.old.call self.old.owner k) m)) by.old.acts by.new.acts) }
         ensures kept { IfErr result (λ _. by.new ≡ record by.old { acts = by.new.acts }) }
@@ -225,7 +228,9 @@ impl<J: JobKind> WorkerThread<J> {
 
     // The scope that the job of this ticket was spawned into, as it is lent to the job's run. None of any other job,
     // and where no share of it can be had.
-    pub(crate) fn scope_of(&self, alloc: Global, ticket: &Ticket<J>) -> Option<Scope<J>> {
+    pub(crate) fn scope_of(&self, alloc: Global, ticket: &Ticket<J>) -> Option<Scope<J>>
+        ensures pool { IfSome result (λ s. s.pool ≡ self.now.id.pool) }
+    {
         let call = ticket.scope()?.call();
         let share = ticket.share().ok()?;
         Some(Scope {
@@ -241,7 +246,7 @@ impl<J: JobKind> WorkerThread<J> {
     // Opens a scope, and lends the worker value: it has one level fewer. Refused as a join is.
     #[tactic(auto, unfolding(crate::specs::Pushes::pushed_by, crate::specs::Pushes::left_to, crate::specs::Pushes::takes_oldest, crate::specs::Pushes::units_of, crate::specs::Pushes::count_of, crate::specs::Pushes::shape_at, crate::specs::Pushes::seat_of, crate::specs::Pushes::acts_of, crate::specs::Pushes::saw_set))]
     fn open<R: Wait>(&mut self, rt: &R, alloc: Global) -> Result<(Opening<J>, Scope<J>), Refusal>
-        ensures scope { IfOk result (λ o. (o.1.receipts ≡ []) × (o.1.keeps ≡ true)) }
+        ensures scope { IfOk result (λ o. (o.1.pool ≡ self.old.id.pool) × (o.1.receipts ≡ []) × (o.1.keeps ≡ true)) }
         ensures left { IfOk result (λ _. self.new ≡ record self.old { units = self.old.units + 1; count = self.new.count; acts = self.new.acts }) }
         ensures some { IfOk result (λ _. 0 < self.old.levels) }
         ensures unit { IfOk result (λ _. TakesUnit (self.old.units == 0) self.old.count self.new.count) }
@@ -282,6 +287,7 @@ impl<J: JobKind> WorkerThread<J> {
         requires some { 0 < self.old.levels }
         requires levels { self.old.levels ≤ R.levels rt.now }
         ensures fault { IfErr result (Allowed J.answers (J.answers_on J.answers)) }
+        ensures own { result ≡ Err NoOutputs.Foreign → ⊥ }
         ensures ended { EndedCall self.old self.new }
         ensures path { ScopeLeft self.old.shape (Worker 0 self.old.seat) opening ending self.old.acts self.new.acts }
     {
@@ -315,9 +321,10 @@ impl<J: JobKind> WorkerThread<J> {
     fn outcome(&mut self) -> Result<Vec<Done<J>>, NoOutputs<J::Fault>>
         ensures same { self.new ≡ self.old }
         ensures fault { IfErr result (Allowed J.answers (J.answers_on J.answers)) }
+        ensures own { result ≡ Err NoOutputs.Foreign → ⊥ }
     {
         match self.bench.take_outcome() {
-            Some(outcome) => outcome.into_result(),
+            Some(outcome) => given(outcome),
             None => Err(NoOutputs::Missing),
         }
     }
@@ -383,6 +390,7 @@ pub trait Opens<J: JobKind>: Sides<J> {
         requires levels { opened_levels opened ≤ R.levels rt.now }
         ensures met { IfOk result (λ o. MetBy J.Tag.eq (runs o) (receipts scope)) }
         ensures fault { IfErr result (Allowed J.answers (J.answers_on J.answers)) }
+        ensures foreign { result ≡ Err NoOutputs.Foreign → (o : Self.Outputs) × (MetBy J.Tag.eq (runs o) (receipts scope) → ⊥) }
         ensures height { Self.height self.new ≡ opened_levels opened }
         ensures id { Self.id self.new ≡ Self.id self.old }
         ensures units { Self.units self.new ≡ Self.units self.old - 1 }
@@ -441,20 +449,35 @@ impl<J: JobKind> Opens<J> for WorkerThread<J> {
 }
 
 // How a body ended that faulted, or did not.
-fn ending_if(faulted: bool) -> Ending
+pub(crate) fn ending_if(faulted: bool) -> Ending
     ensures { result ≡ ended_so faulted }
 {
     if faulted { Ending::Fault } else { Ending::Fine }
 }
 
-// These outputs where they meet each of the receipts.
-fn compared<J: JobKind>(
+// The outputs that the book of an ended scope gave. That one is another job's is known by receipts alone.
+pub(crate) fn given<J: JobKind>(outcome: Outcome<J>) -> Result<Vec<Done<J>>, NoOutputs<J::Fault>>
+    ensures given { (v : _) → result ≡ Ok v → outcome ≡ Ok v.items }
+    ensures fault { IfErr result (Allowed J.answers (J.answers_on J.answers)) }
+    ensures own { result ≡ Err NoOutputs.Foreign → ⊥ }
+{
+    match outcome.into_result() {
+        Err(NoOutputs::Foreign) => Err(NoOutputs::Missing),
+        result => result,
+    }
+}
+
+// These outputs where they meet each of the receipts, else `Foreign`; or why there are none.
+pub(crate) fn compared<J: JobKind>(
     outputs: Result<Vec<Done<J>>, NoOutputs<J::Fault>>,
     receipts: &[Receipt<J::Tag>],
 ) -> Result<Vec<Done<J>>, NoOutputs<J::Fault>>
-    requires { IfErr outputs (Allowed J.answers (J.answers_on J.answers)) }
-    ensures met { IfOk result (λ v. MetBy J.Tag.eq v.items receipts.now) }
+    requires fault { IfErr outputs (Allowed J.answers (J.answers_on J.answers)) }
+    requires own { outputs ≡ Err NoOutputs.Foreign → ⊥ }
+    ensures met { IfOk result (λ v. (outputs ≡ Ok v) × MetBy J.Tag.eq v.items receipts.now) }
     ensures fault { IfErr result (Allowed J.answers (J.answers_on J.answers)) }
+    ensures kept { (e : _) → outputs ≡ Err e → result ≡ Err e }
+    ensures foreign { result ≡ Err NoOutputs.Foreign → (v : _) × (outputs ≡ Ok v) × (MetBy J.Tag.eq v.items receipts.now → ⊥) }
 {
     let outputs = outputs?;
     if are_met(&outputs, receipts) {
@@ -486,6 +509,8 @@ pub trait ScopeCalls<J: JobKind>: Opens<J> {
         requires keeps { (w : _) (s : _) (r : _) (v : _) (t : _) → B.post body w s r v t → (Self.height v.now ≡ Self.height w.now) × (Self.id v.now ≡ Self.id w.now) × (Self.units v.now ≡ Self.units w.now) }
         ensures ok { IfOk result (λ e. (w : _) × (s : _) × (v : _) × (t : _) × (Self.receipts s.now ≡ []) × (Self.keeps s.now ≡ true) × B.post body w s (Ok e.value) v t × MetBy J.Tag.eq (Self.runs e.outputs) (Self.receipts t.now)) }
         ensures fault { (f : _) → result ≡ Err (CallError.Fault f) → ((w : _) × (s : _) × (v : _) × (t : _) × B.post body w s (Err f) v t) ⊎ ((r : Run J.Tag J.Output J.Fault) × Within J.answers (J.answers_on J.answers) r × (r.answer ≡ Err f)) }
+        ensures missing { result ≡ Err CallError.Missing → (w : _) × (s : _) × (x : _) × (v : _) × (t : _) × B.post body w s (Ok x) v t }
+        ensures foreign { result ≡ Err CallError.Foreign → (w : _) × (s : _) × (x : _) × (v : _) × (t : _) × (o : Self.Outputs) × B.post body w s (Ok x) v t × (MetBy J.Tag.eq (Self.runs o) (Self.receipts t.now) → ⊥) }
         ensures back { (r : _) (b : _) → result ≡ Err (CallError.Refused r b) → (b ≡ body) × Self.kept self.old self.new }
         ensures deep { Self.height self.old ≡ 0 → result ≡ Err (CallError.Refused Refusal.TooDeep body) }
         ensures shallow { (b : _) → result ≡ Err (CallError.Refused Refusal.TooDeep b) → Self.height self.old ≡ 0 }
@@ -519,6 +544,8 @@ pub trait ScopeCalls<J: JobKind>: Opens<J> {
         requires keeps { (w : _) (s : _) (r : _) (v : _) (t : _) → B.post body w s r v t → (Self.height v.now ≡ Self.height w.now) × (Self.id v.now ≡ Self.id w.now) × (Self.units v.now ≡ Self.units w.now) }
         ensures ok { IfOk result (λ e. (w : _) × (s : _) × (v : _) × (t : _) × (Self.receipts s.now ≡ []) × (Self.keeps s.now ≡ true) × B.post body w s (Ok e.value) v t × MetBy J.Tag.eq (Self.runs e.outputs) (Self.receipts t.now)) }
         ensures fault { (f : _) → result ≡ Err (CallError.Fault f) → ((w : _) × (s : _) × (v : _) × (t : _) × B.post body w s (Err f) v t) ⊎ ((r : Run J.Tag J.Output J.Fault) × Within J.answers (J.answers_on J.answers) r × (r.answer ≡ Err f)) }
+        ensures missing { result ≡ Err CallError.Missing → (w : _) × (s : _) × (x : _) × (v : _) × (t : _) × B.post body w s (Ok x) v t }
+        ensures foreign { result ≡ Err CallError.Foreign → (w : _) × (s : _) × (x : _) × (v : _) × (t : _) × (o : Self.Outputs) × B.post body w s (Ok x) v t × (MetBy J.Tag.eq (Self.runs o) (Self.receipts t.now) → ⊥) }
         ensures back { (r : _) (b : _) → result ≡ Err (CallError.Refused r b) → (b ≡ body) × Self.kept self.old self.new }
         ensures deep { Self.height self.old ≡ 0 → result ≡ Err (CallError.Refused Refusal.TooDeep body) }
         ensures shallow { (b : _) → result ≡ Err (CallError.Refused Refusal.TooDeep b) → Self.height self.old ≡ 0 }
@@ -547,6 +574,8 @@ pub trait ScopeCalls<J: JobKind>: Opens<J> {
         requires keeps { (w : _) (s : _) (r : _) (v : _) (t : _) → B.post body w s r v t → (Self.height v.now ≡ Self.height w.now) × (Self.id v.now ≡ Self.id w.now) × (Self.units v.now ≡ Self.units w.now) }
         ensures ok { IfOk result (λ e. (w : _) × (s : _) × (v : _) × (t : _) × (Self.receipts s.now ≡ []) × (Self.keeps s.now ≡ true) × B.post body w s (Ok e.value) v t × MetBy J.Tag.eq (Self.runs e.outputs) (Self.receipts t.now)) }
         ensures fault { (f : _) → result ≡ Err (CallError.Fault f) → ((w : _) × (s : _) × (v : _) × (t : _) × B.post body w s (Err f) v t) ⊎ ((r : Run J.Tag J.Output J.Fault) × Within J.answers (J.answers_on J.answers) r × (r.answer ≡ Err f)) }
+        ensures missing { result ≡ Err CallError.Missing → (w : _) × (s : _) × (x : _) × (v : _) × (t : _) × B.post body w s (Ok x) v t }
+        ensures foreign { result ≡ Err CallError.Foreign → (w : _) × (s : _) × (x : _) × (v : _) × (t : _) × (o : Self.Outputs) × B.post body w s (Ok x) v t × (MetBy J.Tag.eq (Self.runs o) (Self.receipts t.now) → ⊥) }
         ensures back { (r : _) (b : _) → result ≡ Err (CallError.Refused r b) → (b ≡ body) × Self.kept self.old self.new }
         ensures deep { Self.height self.old ≡ 0 → result ≡ Err (CallError.Refused Refusal.TooDeep body) }
         ensures shallow { (b : _) → result ≡ Err (CallError.Refused Refusal.TooDeep b) → Self.height self.old ≡ 0 }
@@ -574,6 +603,8 @@ pub trait ScopeCalls<J: JobKind>: Opens<J> {
         requires keeps { (w : _) (s : _) (r : _) (v : _) (t : _) → B.post body w s r v t → (Self.height v.now ≡ Self.height w.now) × (Self.id v.now ≡ Self.id w.now) × (Self.units v.now ≡ Self.units w.now) }
         ensures ok { IfOk result (λ e. (w : _) × (s : _) × (v : _) × (t : _) × (Self.receipts s.now ≡ []) × (Self.keeps s.now ≡ true) × B.post body w s (Ok e.value) v t × MetBy J.Tag.eq (Self.runs e.outputs) (Self.receipts t.now)) }
         ensures fault { (f : _) → result ≡ Err (CallError.Fault f) → ((w : _) × (s : _) × (v : _) × (t : _) × B.post body w s (Err f) v t) ⊎ ((r : Run J.Tag J.Output J.Fault) × Within J.answers (J.answers_on J.answers) r × (r.answer ≡ Err f)) }
+        ensures missing { result ≡ Err CallError.Missing → (w : _) × (s : _) × (x : _) × (v : _) × (t : _) × B.post body w s (Ok x) v t }
+        ensures foreign { result ≡ Err CallError.Foreign → (w : _) × (s : _) × (x : _) × (v : _) × (t : _) × (o : Self.Outputs) × B.post body w s (Ok x) v t × (MetBy J.Tag.eq (Self.runs o) (Self.receipts t.now) → ⊥) }
         ensures back { (r : _) (b : _) → result ≡ Err (CallError.Refused r b) → (b ≡ body) × Self.kept self.old self.new }
         ensures deep { Self.height self.old ≡ 0 → result ≡ Err (CallError.Refused Refusal.TooDeep body) }
         ensures shallow { (b : _) → result ≡ Err (CallError.Refused Refusal.TooDeep b) → Self.height self.old ≡ 0 }

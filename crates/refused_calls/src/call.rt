@@ -1,4 +1,5 @@
 //! The calls that the program makes, and what they give.
+use crate::in_place::{in_place_scope, pool_scope};
 use crate::on_worker::WorkerCall;
 use crate::outcome::{NoPool, Outcome, Report};
 use crate::work::{Answer, Deed, Desk, Name, Work, joined, spawned};
@@ -26,6 +27,10 @@ pub enum PoolCall {
     Join,
     /// `ThreadPool::spawn`.
     Spawn,
+    /// `PoolRef::scope`, with a job as its body.
+    Scope,
+    /// `InPlaceCalls::in_place_scope`, with two spawns.
+    InPlaceScope,
     /// A call on a worker of the pool.
     OnWorker(WorkerCall),
 }
@@ -39,6 +44,8 @@ impl Call {
             "install" => Call::OnPool(PoolCall::Install),
             "pool_join" => Call::OnPool(PoolCall::Join),
             "pool_spawn" => Call::OnPool(PoolCall::Spawn),
+            "pool_scope" => Call::OnPool(PoolCall::Scope),
+            "in_place_scope" => Call::OnPool(PoolCall::InPlaceScope),
             "spawn" => Call::OnPool(PoolCall::OnWorker(WorkerCall::Spawn)),
             "spawn_fifo" => Call::OnPool(PoolCall::OnWorker(WorkerCall::SpawnFifo)),
             "scope" => Call::OnPool(PoolCall::OnWorker(WorkerCall::Scope)),
@@ -190,6 +197,8 @@ fn make_on_pool<R: Threads + Wait + Copy + Send + 'static>(
         PoolCall::Install => twice(|| install(rt, alloc, &pool, &desk)),
         PoolCall::Join => twice(|| join(rt, alloc, &pool, &desk)),
         PoolCall::Spawn => twice(|| spawn(rt, alloc, &pool, &desk)),
+        PoolCall::Scope => twice(|| pool_scope(rt, alloc, &pool, &desk)),
+        PoolCall::InPlaceScope => twice(|| Ok(in_place_scope(rt, alloc, &pool, &desk))),
         PoolCall::OnWorker(call) => install_caller(rt, alloc, &pool, &desk, call),
     };
     pool.end_and_join(rt);

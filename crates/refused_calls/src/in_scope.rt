@@ -11,7 +11,7 @@ use std::alloc::Global;
 use std::sync::{Arc, Wait};
 
 /// The numbers that a body's spawns were answered. None where one was refused.
-type Numbers = (Option<u64>, Option<u64>);
+pub type Numbers = (Option<u64>, Option<u64>);
 
 /// Opens a scope, and spawns a job that answers 20 and one that answers 3 into it. Answers the sum of those that were
 /// spawned.
@@ -86,9 +86,9 @@ fn spawn_in_order<R: Wait>(
     Ok((first, second))
 }
 
-// The number that a spawn of the job with this name, which does this, was answered. None where want of memory refused
-// it, with that very job back.
-fn number_of(
+/// The number that a spawn of the job with this name, which does this, was answered. None where want of memory refused
+/// it, with that very job back.
+pub fn number_of(
     answer: Result<u64, (Refusal, Work)>,
     name: Name,
     deed: Deed,
@@ -100,23 +100,27 @@ fn number_of(
     }
 }
 
-// What a scope gave. Where it was refused its body came back, which has made no job.
-fn ended<B: Drop>(
+/// What a scope gave. Where it was refused its body came back, which has made no job.
+pub fn ended<B: Drop>(
     answer: Result<Ended<Numbers, Vec<Done<Work>>>, CallError<Refusal, B>>,
     desk: &Arc<Desk>,
 ) -> Outcome {
-    let runs = desk.runs();
     match answer {
-        Ok(ended) => match sum_of(&ended, runs) {
-            Some(sum) => Outcome::Answered(sum),
-            None => Outcome::Unlike,
-        },
+        Ok(ended) => summed(&ended, desk),
         Err(CallError::Refused(refusal, _body)) => Outcome::Refused {
             refusal,
             same_jobs: true,
-            runs,
+            runs: desk.runs(),
         },
         Err(_) => Outcome::Unlike,
+    }
+}
+
+/// What a scope gave whose jobs have these outputs: their sum.
+pub fn summed(ended: &Ended<Numbers, Vec<Done<Work>>>, desk: &Arc<Desk>) -> Outcome {
+    match sum_of(ended, desk.runs()) {
+        Some(sum) => Outcome::Answered(sum),
+        None => Outcome::Unlike,
     }
 }
 

@@ -2,6 +2,7 @@
 #![tactic(auto)]
 
 mod call;
+mod in_place;
 mod in_scope;
 mod input;
 mod on_worker;

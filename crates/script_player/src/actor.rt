@@ -1,7 +1,8 @@
 //! The threads of a script that are no workers.
+use crate::outside::{Scoped, open_scope};
 use crate::play::{Play, trouble_of, trouble_of_both};
-use crate::stage::{Here, Stage, Told, Trouble};
-use pool_script::script::{Ask, Call, Line, Plain, Step, Verb};
+use crate::stage::{Here, Name, Stage, Told, Trouble};
+use pool_script::script::{Ask, Call, Line, Plain, Shape, Shown, Step, Verb};
 use rayon_core::{CallError, PoolRef, Refusal};
 use std::alloc::{AllocError, Global};
 use std::fmt::Write;
@@ -177,11 +178,12 @@ impl Actor {
                     _ => Ok(false),
                 }
             }
+            Step::Scope(pool, shape, body) => match (self.pools.get(pool), self.job(here, body)?) {
+                (Some(pool), Some(body)) => self.scope(rt, alloc, pool, shape, body, said),
+                _ => Ok(false),
+            },
             Step::Ask(pool, ask) => self.ask(rt, pool, ask, said),
-            Step::Print(shown) => {
-                self.stage.show(rt, alloc, shown, said)?;
-                Ok(true)
-            }
+            Step::Print(shown) => self.show(rt, alloc, shown, said),
             Step::Lead(_) => Ok(false),
         }
     }
@@ -265,6 +267,37 @@ impl Actor {
         }
     }
 
+    // Opens a scope, and writes what is answered.
+    fn scope<R: Wait>(
+        &self,
+        rt: &R,
+        alloc: Global,
+        pool: &PoolRef<Play>,
+        shape: Shape,
+        body: Play,
+        said: &mut String,
+    ) -> Result<bool, AllocError> {
+        match open_scope(rt, alloc, &self.stage, pool, shape, body) {
+            Ok(Scoped { value, sum, count }) => {
+                write!(said, " {value}, and {sum} of {count}")?;
+                Ok(true)
+            }
+            Err(error) => self.tell(is_fault(&error), trouble_of_scope(error), said),
+        }
+    }
+
+    // Writes what is to be shown.
+    fn show<R: Wait>(
+        &self,
+        rt: &R,
+        alloc: Global,
+        shown: Shown,
+        said: &mut String,
+    ) -> Result<bool, AllocError> {
+        self.stage.show(rt, alloc, shown, said)?;
+        Ok(true)
+    }
+
     // Writes what a pool answers without a job.
     fn ask<R: Wait>(
         &self,
@@ -303,6 +336,15 @@ impl Actor {
         };
         write!(said, " {told}")?;
         Ok(true)
+    }
+}
+
+// Why a scope gave no answer, whose body has this name where it is refused.
+fn trouble_of_scope(error: CallError<Trouble, Name>) -> Trouble {
+    match error {
+        CallError::Fault(trouble) => trouble,
+        CallError::Refused(refusal, body) => Trouble::Refused(refusal, body),
+        CallError::Foreign | CallError::Missing => Trouble::Lost,
     }
 }
 

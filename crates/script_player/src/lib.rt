@@ -4,6 +4,7 @@
 mod actor;
 mod error;
 mod house;
+mod outside;
 mod play;
 mod run;
 mod scopes;

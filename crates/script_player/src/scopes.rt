@@ -107,8 +107,13 @@ pub fn scoped<B: Drop>(
         Err(CallError::Refused(refusal, _body)) => return Err(Trouble::Refused(refusal, body)),
         Err(CallError::Foreign | CallError::Missing) => return Err(Trouble::Lost),
     };
-    let mut sum = ended.value;
-    for done in &ended.outputs {
+    Ok(ended.value.wrapping_add(sum_of(&ended.outputs)?))
+}
+
+/// The sum of the outputs of a scope's jobs, modulo 2^64.
+pub fn sum_of(outputs: &[Done<Play>]) -> Result<u64, Trouble> {
+    let mut sum = 0_u64;
+    for done in outputs {
         let output = done.output().ok_or(Trouble::Lost)?;
         sum = sum.wrapping_add(*output);
     }

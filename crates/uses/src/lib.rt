@@ -3,6 +3,7 @@
 
 pub mod closure;
 pub mod global;
+pub mod in_place;
 pub mod migrated;
 pub mod pools;
 pub mod scopes;

@@ -3,6 +3,7 @@ ghost use Rattle.std.specs.Prelude.{◌≡◌, IfOk, false};
 
 use crate::closure::Ask;
 use crate::global::halves;
+use crate::in_place::double_in_place;
 use crate::migrated::Tell;
 use crate::server::serve;
 use crate::sort::Sort;
@@ -108,6 +109,20 @@ fn twice_the_sum<R: Threads + Wait + Copy + Send + 'static>(
     Ok(sum.map_err(CallError::without_sides)?)
 }
 
+// Twice 8 by a scope from outside, and how many jobs that had.
+fn doubled_in_place<R: Threads + Wait + Copy + Send + 'static>(
+    rt: &R,
+    alloc: Global,
+    ids: &Ids,
+) -> anyhow::Result<(u32, usize)>
+    ensures { IfOk result (λ p. p.0 ≡ 16) }
+{
+    let pool = ThreadPoolBuilder::new().build(rt, alloc, ids)?;
+    let doubled = double_in_place(rt, alloc, &pool, 8, 9);
+    pool.end_and_join(rt);
+    Ok(doubled?)
+}
+
 /// Makes each of these pools in turn, and prints what came of it.
 pub fn print_all<R: Runtime + Threads + Wait + Copy + Send + 'static>(
     rt: &R,
@@ -126,6 +141,8 @@ pub fn print_all<R: Runtime + Threads + Wait + Copy + Send + 'static>(
     println!(rt; "migrated: {job} {closure}")?;
     let doubled = twice_the_sum(rt, alloc, &ids)?;
     println!(rt; "doubled: {doubled}")?;
+    let (doubled, jobs) = doubled_in_place(rt, alloc, &ids)?;
+    println!(rt; "in place: {doubled} of {jobs} jobs")?;
     let (left, right) = halves(rt, alloc)?;
     println!(rt; "halves: {left} + {right}")?;
     let batch = [1, 2, 3, u32::MAX, 4, 5, u32::MAX, 6];

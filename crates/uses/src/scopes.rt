@@ -47,7 +47,11 @@ fn spawn_doubles<R: Waits<Ask>>(
 }
 
 // Twice a number, by the job of this number in the scope that has ended.
-fn double_at<V>(ended: &Ended<V, Vec<Done<Ask>>>, number: u64, n: u32) -> Result<u32, AskFault>
+pub(crate) fn double_at<V>(
+    ended: &Ended<V, Vec<Done<Ask>>>,
+    number: u64,
+    n: u32,
+) -> Result<u32, AskFault>
     ensures { IfOk result (λ v. v ≡ n + n) }
 {
     let receipt = Receipt {

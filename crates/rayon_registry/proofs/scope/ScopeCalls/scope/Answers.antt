@@ -10,3 +10,14 @@ returns-clause-fault g c f e = elim (c.scope_answer.ensures.fault f e) [
   | inl p ↦ inl (_, _, _, _, rw p at c.body-answer.ensures)
   | inr q ↦ inr (rw q at c.end_scope-ended.ensures.fault)
 ]
+
+pub returns-clause-missing : goal.returns-clause-missing
+returns-clause-missing g c e =
+    let m = c.scope_answer.ensures.missing e in
+    (_, _, m.0, _, _, rw m.1 at c.body-answer.ensures)
+
+pub returns-clause-foreign : goal.returns-clause-foreign
+returns-clause-foreign g c e =
+    let m = c.scope_answer.ensures.foreign e in
+    let o = c.end_scope-ended.ensures.foreign m.1 in
+    (_, _, m.0.0, _, _, o.0, rw m.0.1 at c.body-answer.ensures, o.1)

@@ -1,4 +1,5 @@
 use Rattle.std.proofs.Common.{◌≡◌, rules, subst}
+use Rattle.rayon_books.specs.Receipts.{MetBy}
 use Rattle.rayon_machine_places.specs.declared.place.Ending.{Ending}
 use Rattle.rayon_machine_places.specs.declared.place.Move.TheVariants.{Back, Stay}
 use Rattle.rayon_machine_places.specs.declared.place.Party.TheVariants.{Worker}
@@ -18,3 +19,8 @@ returns-clause-path g c =
     let shape : s.shape ≡ w.shape = search rules in
     let left = worked_as s.shape w.shape s.seat w.seat (Stay (goes_on (ScopeBody (own_call n)) c.ending_if.result)) s.acts w.acts Back seat shape c.finish-outputs.ensures.path in
     (s.acts, c.take_back.ensures.run, subst (λ (e : Ending). ScopeLeft w.shape (Worker 0 w.seat) n e s.acts w.acts) c.ending_if.ensures left)
+
+pub returns-clause-foreign : goal.returns-clause-foreign
+returns-clause-foreign g c e =
+    let m = c.compared.ensures.foreign e in
+    (m.0, subst (λ v. MetBy g.J.Tag.PartialEq.eq m.0.items v.receipts → ⊥) c.scope.view_is (subst (λ l. MetBy g.J.Tag.PartialEq.eq m.0.items l → ⊥) c.deref.ensures.value m.2))

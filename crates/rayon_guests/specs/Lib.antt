@@ -1,0 +1,3 @@
+pub mod Paths
+pub mod Visiting
+pub mod Visits

@@ -1,0 +1,11 @@
+//! The callers outside a pool, who perform the machine's acts of their calls.
+#![tactic(auto)]
+
+mod guest;
+mod load;
+mod paused;
+mod scope;
+
+pub use guest::Guest;
+pub use load::Load;
+pub use paused::Paused;

@@ -44,9 +44,12 @@ fn main() -> Result<(), Box<dyn Error>> {
         ["spawn_fifo", workers, _] => time_spawns(&pool_of(workers.parse()?)?, true),
         ["scope", workers, _] => time_scopes(&pool_of(workers.parse()?)?, run_scope),
         ["scope_fifo", workers, _] => time_scopes(&pool_of(workers.parse()?)?, run_scope_fifo),
+        ["scope_outputs", workers, _] => time_scopes(&pool_of(workers.parse()?)?, run_scope_outputs),
+        ["in_place_scope", workers, _] => time_in_place_scopes(&pool_of(workers.parse()?)?),
         ["idle", workers, n] => idle(&pool_of(workers.parse()?)?, n.parse()?),
         _ => Err(
-            "join|leaves|sequential|install|pool_join|spawn|spawn_fifo|scope|scope_fifo|idle WORKERS N, or nothing"
+            "join|leaves|sequential|install|pool_join|spawn[_fifo]|scope[_fifo|_outputs]|in_place_scope|idle \
+            WORKERS N, or nothing"
                 .into(),
         ),
     }
@@ -114,30 +117,57 @@ fn time_spawns(pool: &ThreadPool, in_order: bool) -> Result<(), Box<dyn Error>> 
     Ok(())
 }
 
-fn time_scopes(pool: &ThreadPool, run: fn()) -> Result<(), Box<dyn Error>> {
+fn time_scopes(pool: &ThreadPool, run: fn() -> u64) -> Result<(), Box<dyn Error>> {
     for _ in 0..RUNS {
         let start = Instant::now();
-        pool.install(run);
+        let answer = pool.install(run);
         let nanoseconds = start.elapsed().as_nanos();
-        println!("{nanoseconds} {SPAWNS}");
+        println!("{nanoseconds} {answer}");
     }
     Ok(())
 }
 
-fn run_scope() {
+fn run_scope() -> u64 {
     scope(|scope| {
         for _ in 0..SPAWNS {
             scope.spawn(|_| ());
         }
     });
+    SPAWNS
 }
 
-fn run_scope_fifo() {
+fn run_scope_fifo() -> u64 {
     scope_fifo(|scope| {
         for _ in 0..SPAWNS {
             scope.spawn_fifo(|_| ());
         }
     });
+    SPAWNS
+}
+
+/// Each job writes its number into a place of its own.
+fn run_scope_outputs() -> u64 {
+    let mut outputs: Vec<u64> = vec![0; SPAWNS as usize];
+    scope(|scope| {
+        for (output, number) in outputs.iter_mut().zip(0..) {
+            scope.spawn(move |_| *output = number);
+        }
+    });
+    outputs.iter().sum()
+}
+
+fn time_in_place_scopes(pool: &ThreadPool) -> Result<(), Box<dyn Error>> {
+    for _ in 0..RUNS {
+        let start = Instant::now();
+        pool.in_place_scope(|scope| {
+            for _ in 0..SPAWNS {
+                scope.spawn(|_| ());
+            }
+        });
+        let nanoseconds = start.elapsed().as_nanos();
+        println!("{nanoseconds} {SPAWNS}");
+    }
+    Ok(())
 }
 
 fn time_sequential(n: u8) -> Result<(), Box<dyn Error>> {

@@ -100,7 +100,6 @@ fn one_outside(held: &ThreadPool, place: Place, verb: Verb, job: Play) -> Answer
 pub fn ask_own(stage: &'static Stage, place: Place, ask: Ask) -> u64 {
     let new = |call| Play::new(stage, place.here, call);
     let Some(pool) = current_pool() else {
-        // (the body of a scope in place, on a thread that is no worker)
         stage.has_no_answer();
         return 0;
     };

@@ -97,6 +97,11 @@ fn attempt(act: impl FnOnce() -> u64) -> u64 {
 /// Does this once.
 fn act(stage: &'static Stage, place: Place, deed: &Deed) -> u64 {
     let new = |call| Play::new(stage, place.here, call);
+    if place.worker.is_none() && wants_worker(deed) {
+        // (the body of a scope in place, on a thread that is no worker)
+        stage.has_no_answer();
+        return 0;
+    }
     match deed.act {
         Act::Plain(deed) => plain(stage, place.here, deed),
         Act::Ask(ask) => match deed.at {
@@ -124,6 +129,19 @@ fn act(stage: &'static Stage, place: Place, deed: &Deed) -> u64 {
         },
         Act::YieldNow => yielded(stage, false),
         Act::YieldLocal => yielded(stage, true),
+    }
+}
+
+/// Whether a deed is a call that a worker alone makes here.
+fn wants_worker(deed: &Deed) -> bool {
+    match deed.act {
+        Act::Ask(_) => deed.at.is_none(),
+        Act::JoinWith(..)
+        | Act::JoinInstall(..)
+        | Act::Serve(..)
+        | Act::YieldNow
+        | Act::YieldLocal => true,
+        Act::Plain(_) | Act::Into(..) | Act::IntoBroadcast(_) => false,
     }
 }
 

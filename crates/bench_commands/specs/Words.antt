@@ -3,10 +3,12 @@ use Rattle.std.specs.Str.Parse.{IsNumeral, digits_value, without_leading_plus}
 use Rattle.bench_commands.specs.declared.command.Command.{Command}
 use Rattle.bench_commands.specs.declared.command.Command.TheVariants.{Values, Time}
 use Rattle.bench_commands.specs.declared.command.Timed.{Timed}
-use Rattle.bench_commands.specs.declared.command.Timed.TheVariants.{Join, Leaves, Sequential, Install, PoolJoin, Spawn, SpawnFifo, Scope, ScopeFifo, Idle}
+use Rattle.bench_commands.specs.declared.command.Timed.TheVariants.{Join, Leaves, Sequential, Install, PoolJoin}
+use Rattle.bench_commands.specs.declared.command.Timed.TheVariants.{Spawn, SpawnFifo, Scope, ScopeFifo, ScopeOutputs}
+use Rattle.bench_commands.specs.declared.command.Timed.TheVariants.{InPlaceScope, Idle}
 
 -- the bytes of the word that asks for this: join, leaves, sequential, install, pool_join, spawn,
--- spawn_fifo, scope, scope_fifo, idle
+-- spawn_fifo, scope, scope_fifo, scope_outputs, in_place_scope, idle
 abbrev pub word_of : Timed → List ℕ
 word_of Join = 106 ∷ 111 ∷ 105 ∷ 110 ∷ []
 word_of Leaves = 108 ∷ 101 ∷ 97 ∷ 118 ∷ 101 ∷ 115 ∷ []
@@ -17,6 +19,8 @@ word_of Spawn = 115 ∷ 112 ∷ 97 ∷ 119 ∷ 110 ∷ []
 word_of SpawnFifo = 115 ∷ 112 ∷ 97 ∷ 119 ∷ 110 ∷ 95 ∷ 102 ∷ 105 ∷ 102 ∷ 111 ∷ []
 word_of Scope = 115 ∷ 99 ∷ 111 ∷ 112 ∷ 101 ∷ []
 word_of ScopeFifo = 115 ∷ 99 ∷ 111 ∷ 112 ∷ 101 ∷ 95 ∷ 102 ∷ 105 ∷ 102 ∷ 111 ∷ []
+word_of ScopeOutputs = 115 ∷ 99 ∷ 111 ∷ 112 ∷ 101 ∷ 95 ∷ 111 ∷ 117 ∷ 116 ∷ 112 ∷ 117 ∷ 116 ∷ 115 ∷ []
+word_of InPlaceScope = 105 ∷ 110 ∷ 95 ∷ 112 ∷ 108 ∷ 97 ∷ 99 ∷ 101 ∷ 95 ∷ 115 ∷ 99 ∷ 111 ∷ 112 ∷ 101 ∷ []
 word_of Idle = 105 ∷ 100 ∷ 108 ∷ 101 ∷ []
 
 -- a word that writes a number: decimal digits, one or more, after a plus or none

@@ -27,6 +27,10 @@ pub enum Timed {
     Scope,
     /// The same, a scope in order.
     ScopeFifo,
+    /// A scope of jobs that answer their numbers, by one job that adds them up.
+    ScopeOutputs,
+    /// A scope of empty jobs, by a thread that is no worker.
+    InPlaceScope,
     /// Nothing: the pool is idle for some seconds after it has found F(n).
     Idle,
 }
@@ -47,6 +51,8 @@ impl Timed {
             "spawn_fifo" => Some(Timed::SpawnFifo),
             "scope" => Some(Timed::Scope),
             "scope_fifo" => Some(Timed::ScopeFifo),
+            "scope_outputs" => Some(Timed::ScopeOutputs),
+            "in_place_scope" => Some(Timed::InPlaceScope),
             "idle" => Some(Timed::Idle),
             _ => None,
         }

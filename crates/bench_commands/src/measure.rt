@@ -4,7 +4,7 @@ ghost use Rattle.fibonacci.specs.Fib.{fib};
 
 use crate::command::{Command, Timed};
 use crate::leaves::Leaves;
-use crate::scopes::Scoping;
+use crate::scopes::{Deed, Scoping, count_in_place};
 use crate::spawns::Spawning;
 use anyhow::{Context, Result};
 use fibonacci::{Fib, sequential};
@@ -55,8 +55,10 @@ fn run_timed<R: Runtime + Threads + Wait + Copy + Send + 'static>(
         Timed::Leaves => run_leaves(rt, alloc, workers, n),
         Timed::Spawn => run_spawns(rt, alloc, workers, false),
         Timed::SpawnFifo => run_spawns(rt, alloc, workers, true),
-        Timed::Scope => run_scopes(rt, alloc, workers, Scoping::new(SPAWNS, false)),
-        Timed::ScopeFifo => run_scopes(rt, alloc, workers, Scoping::new(SPAWNS, true)),
+        Timed::Scope => run_scopes(rt, alloc, workers, Some(Deed::Count)),
+        Timed::ScopeFifo => run_scopes(rt, alloc, workers, Some(Deed::CountInOrder)),
+        Timed::ScopeOutputs => run_scopes(rt, alloc, workers, Some(Deed::Sum)),
+        Timed::InPlaceScope => run_scopes(rt, alloc, workers, None),
         Timed::Join | Timed::Install | Timed::PoolJoin | Timed::Idle => {
             run_on_pool(rt, alloc, workers, Some((what, n)))
         }
@@ -111,17 +113,20 @@ fn run_spawns<R: Runtime + Threads + Wait + Copy + Send + 'static>(
     outcome
 }
 
-// The same of a job that opens a scope.
+// The same of a job that does this, or of scopes from outside.
 fn run_scopes<R: Runtime + Threads + Wait + Copy + Send + 'static>(
     rt: &R,
     alloc: Global,
     workers: usize,
-    job: Scoping,
+    deed: Option<Deed>,
 ) -> Result<()> {
     let ids = Ids::new();
     let builder = ThreadPoolBuilder::<Scoping>::new().num_threads(workers);
     let pool = builder.build(rt, alloc, &ids)?;
-    let outcome = time_scopes(rt, alloc, &pool, job);
+    let outcome = match deed {
+        None => time_in_place_scopes(rt, alloc, &pool),
+        Some(deed) => time_scopes(rt, alloc, &pool, Scoping::new(deed, SPAWNS)),
+    };
     pool.end_and_join(rt);
     outcome
 }
@@ -144,7 +149,9 @@ fn time<R: Runtime + Wait>(
         | Timed::Spawn
         | Timed::SpawnFifo
         | Timed::Scope
-        | Timed::ScopeFifo => Ok(()),
+        | Timed::ScopeFifo
+        | Timed::ScopeOutputs
+        | Timed::InPlaceScope => Ok(()),
     }
 }
 
@@ -258,9 +265,24 @@ fn time_scopes<R: Runtime + Wait>(
 ) -> Result<()> {
     for _ in 0..RUNS {
         let start = Instant::now(rt)?;
-        let outputs = pool
+        let answer = pool
             .install(rt, alloc, job)
             .map_err(CallError::without_sides)?;
+        let nanoseconds = start.elapsed(rt)?.as_nanos();
+        println!(rt; "{nanoseconds} {answer}")?;
+    }
+    Ok(())
+}
+
+// One scope from outside for each run, until it is answered.
+fn time_in_place_scopes<R: Runtime + Wait>(
+    rt: &R,
+    alloc: Global,
+    pool: &ThreadPool<Scoping>,
+) -> Result<()> {
+    for _ in 0..RUNS {
+        let start = Instant::now(rt)?;
+        let outputs = count_in_place(rt, alloc, pool, SPAWNS)?;
         let nanoseconds = start.elapsed(rt)?.as_nanos();
         println!(rt; "{nanoseconds} {outputs}")?;
     }

@@ -12,7 +12,8 @@ fn main(rt: HostRuntime) -> Result<()> {
     let _ = words.next();
     let Some(command) = Command::parse(words) else {
         bail!(
-            "join|leaves|sequential|install|pool_join|spawn|spawn_fifo|scope|scope_fifo|idle WORKERS N, or nothing"
+            "join|leaves|sequential|install|pool_join|spawn[_fifo]|scope[_fifo|_outputs]|in_place_scope|idle \
+            WORKERS N, or nothing"
         );
     };
     run(&rt, alloc, command)

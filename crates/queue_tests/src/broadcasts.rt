@@ -39,6 +39,17 @@ fn whole(number: u64) -> Done<Share> {
     Done::of_run(number, Ok(number))
 }
 
+// What the piece of this index, of so many, of the job with this number answers.
+fn piece(number: u64, index: usize, workers: usize) -> Done<Share> {
+    let answer = number.checked_add(index as u64).ok_or(0);
+    Done::of_piece(number, index, workers, answer)
+}
+
+// What such a piece answers that has a fault.
+fn failed(number: u64, index: usize, workers: usize, fault: u64) -> Done<Share> {
+    Done::of_piece(number, index, workers, Err(fault))
+}
+
 // The output of the piece of this index, where the broadcast with this number has one.
 fn share_of(book: &mut BroadcastBook<Share>, number: u64, index: usize) -> Option<u64>
     ensures { IfSome result (λ o. o ≡ number + index) }
@@ -122,6 +133,67 @@ fn a_place_takes_one_result(rt: HostRuntime) -> Result<(), Fail> {
 }
 
 #[test]
+fn outputs_stand_by_index_whenever_they_are_stored(rt: HostRuntime) -> Result<(), Fail> {
+    for order in [
+        [0, 1, 2],
+        [0, 2, 1],
+        [1, 0, 2],
+        [1, 2, 0],
+        [2, 0, 1],
+        [2, 1, 0],
+    ] {
+        let mut book = BroadcastBook::new(rt.alloc(), 3)?;
+        for index in order {
+            assert!(rt; book.store(index, piece(5, index, 3)).is_none());
+        }
+        assert!(rt;
+            matches!(book.outputs(&5), Ok(outputs) if outputs.as_slice() == [5, 6, 7].as_slice())
+        );
+    }
+    Ok(())
+}
+
+#[test]
+fn the_fault_of_the_lowest_index_is_answered(rt: HostRuntime) -> Result<(), Fail> {
+    for order in [
+        [1, 2, 3],
+        [1, 3, 2],
+        [2, 1, 3],
+        [2, 3, 1],
+        [3, 1, 2],
+        [3, 2, 1],
+    ] {
+        let mut book = BroadcastBook::new(rt.alloc(), 4)?;
+        for index in order {
+            assert!(rt;
+                book.store(index, failed(5, index, 4, index as u64))
+                    .is_none()
+            );
+        }
+        assert!(rt; book.store(0, piece(5, 0, 4)).is_none());
+        assert!(rt; matches!(book.outputs(&5), Err(NoAnswers::Fault(1))));
+    }
+    Ok(())
+}
+
+#[test]
+fn a_piece_of_another_place_or_broadcast_is_foreign(rt: HostRuntime) -> Result<(), Fail> {
+    for other in [
+        piece(5, 0, 2),
+        piece(5, 1, 3),
+        piece(6, 1, 2),
+        failed(5, 0, 2, 9),
+        whole(5),
+    ] {
+        let mut book = BroadcastBook::new(rt.alloc(), 2)?;
+        assert!(rt; book.store(0, piece(5, 0, 2)).is_none());
+        assert!(rt; book.store(1, other).is_none());
+        assert!(rt; matches!(book.outputs(&5), Err(NoAnswers::Foreign)));
+    }
+    Ok(())
+}
+
+#[test]
 fn the_first_place_without_an_output_decides(rt: HostRuntime) -> Result<(), Fail> {
     let mut first = BroadcastBook::new(rt.alloc(), 2)?;
     assert!(rt; first.store(0, whole(5)).is_none());
@@ -129,7 +201,13 @@ fn the_first_place_without_an_output_decides(rt: HostRuntime) -> Result<(), Fail
     let mut second = BroadcastBook::new(rt.alloc(), 2)?;
     assert!(rt; second.store(1, whole(5)).is_none());
     assert!(rt; matches!(second.outputs(&5), Err(NoAnswers::Missing)));
+    let mut third = BroadcastBook::new(rt.alloc(), 2)?;
+    assert!(rt; third.store(1, failed(5, 1, 2, 9)).is_none());
+    assert!(rt; matches!(third.outputs(&5), Err(NoAnswers::Missing)));
     let mut none = BroadcastBook::new(rt.alloc(), 0)?;
     assert_eq!(rt; share_of(&mut none, 5, 0), None);
+    let mut one = BroadcastBook::new(rt.alloc(), 1)?;
+    assert!(rt; one.store(0, piece(5, 0, 1)).is_none());
+    assert_eq!(rt; share_of(&mut one, 5, 0), Some(5));
     Ok(())
 }

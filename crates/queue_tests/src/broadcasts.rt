@@ -3,10 +3,16 @@
 ghost use Rattle.std.proofs.Common.{rules};
 ghost use Rattle.std.specs.Prelude.{◌≡◌, ◌+◌, IfOk, IfSome};
 
-use rayon_broadcasts::{BroadcastBook, BroadcastLists, NoAnswers, Unpushed};
+use rayon_broadcasts::{
+    BroadcastBook, BroadcastCore, BroadcastLists, NoAnswers, SharedJob, Unpushed,
+};
 use rayon_jobs::{Done, JobKind, NoHandler};
 use rayon_words::Refusal;
+use std::alloc::Global;
+use std::sync::{Arc, Wait};
 use std::test::*;
+use std::thread;
+use std::thread::Threads;
 
 // A job whose piece of index i answers its number and i. Its fault may be any number.
 #[derive(Drop)]
@@ -48,6 +54,47 @@ fn piece(number: u64, index: usize, workers: usize) -> Done<Share> {
 // What such a piece answers that has a fault.
 fn failed(number: u64, index: usize, workers: usize, fault: u64) -> Done<Share> {
     Done::of_piece(number, index, workers, Err(fault))
+}
+
+// Runs the piece of this index, of so many: it answers by the job that was put in. Whether it was the last to end.
+fn run_piece<R: Wait>(
+    rt: &R,
+    core: &BroadcastCore<Share>,
+    job: &SharedJob<Share>,
+    index: usize,
+    workers: usize,
+) -> Option<bool> {
+    let number = job.job()?.tag();
+    let mut book = core.book().hold(rt);
+    let unstored = book.store(index, piece(number, index, workers));
+    let left = core.book().leave(rt, book);
+    let mut seat = core.count().guest_seat();
+    let was_last = core.count().set(rt, &mut seat);
+    (unstored.is_none() && left.is_ok()).then_some(was_last)
+}
+
+// Runs the pieces of a broadcast to so many workers, each on a thread of its own. Answers how many were the last to
+// end, where none failed.
+fn run_on_threads<R: Threads + Wait + Copy + Send + 'static>(
+    rt: &R,
+    alloc: Global,
+    core: &Arc<BroadcastCore<Share>>,
+    job: &SharedJob<Share>,
+    workers: usize,
+) -> Option<usize> {
+    let mut threads = Vec::new(alloc);
+    for index in 0..workers {
+        let theirs = *rt;
+        let their_core = Arc::try_clone(core).ok()?;
+        let their_job = job.share().ok()?;
+        let run = move || run_piece(&theirs, &their_core, &their_job, index, workers);
+        threads.push(thread::spawn(rt, run).ok()?).ok()?;
+    }
+    let mut last = 0_usize;
+    for thread in threads {
+        last = last.saturating_add(usize::from(thread.join(rt)?));
+    }
+    Some(last)
 }
 
 // The output of the piece of this index, where the broadcast with this number has one.
@@ -209,5 +256,60 @@ fn the_first_place_without_an_output_decides(rt: HostRuntime) -> Result<(), Fail
     let mut one = BroadcastBook::new(rt.alloc(), 1)?;
     assert!(rt; one.store(0, piece(5, 0, 1)).is_none());
     assert_eq!(rt; share_of(&mut one, 5, 0), Some(5));
+    Ok(())
+}
+
+#[test]
+fn a_shared_job_is_put_in_once(rt: HostRuntime) -> Result<(), Fail> {
+    let job = SharedJob::new(rt.alloc())?;
+    let share = job.share()?;
+    assert!(rt; share.job().is_none());
+    assert!(rt; job.put(Share(5)).is_ok());
+    assert!(rt; matches!(share.job(), Some(Share(5))));
+    assert!(rt; matches!(share.put(Share(6)), Err(Share(6))));
+    assert!(rt; matches!(job.job(), Some(Share(5))));
+    drop(job);
+    assert!(rt; matches!(share.job(), Some(Share(5))));
+    let other: SharedJob<Share> = SharedJob::new(rt.alloc())?;
+    assert!(rt; other.job().is_none());
+    Ok(())
+}
+
+#[test]
+fn pieces_that_have_not_ended_are_counted(rt: HostRuntime) -> Result<(), Fail> {
+    let core: BroadcastCore<Share> = BroadcastCore::new(rt.alloc(), 7, 3)?;
+    assert_eq!(rt; core.call(), 7);
+    let mut seat = core.count().guest_seat();
+    assert_eq!(rt; core.count().load(&mut seat), 3);
+    let mut book = core.book().hold(&rt);
+    assert!(rt; book.store(2, piece(5, 2, 3)).is_none());
+    assert!(rt; book.store(3, piece(5, 3, 3)).is_some());
+    assert!(rt; core.book().leave(&rt, book).is_ok());
+    assert!(rt; !core.count().set(&rt, &mut seat));
+    assert!(rt; !core.count().set(&rt, &mut seat));
+    assert!(rt; core.count().set(&rt, &mut seat));
+    let huge: Result<BroadcastCore<Share>, Refusal> = BroadcastCore::new(rt.alloc(), 7, usize::MAX);
+    assert!(rt; matches!(huge, Err(Refusal::NoRoom)));
+    Ok(())
+}
+
+#[test]
+fn pieces_on_threads_share_a_job(rt: HostRuntime) -> Result<(), Fail> {
+    for workers in [1, 2, 4, 16] {
+        let core = Arc::new(rt.alloc(), BroadcastCore::new(rt.alloc(), 7, workers)?)?;
+        let job = SharedJob::new(rt.alloc())?;
+        assert!(rt; job.put(Share(5)).is_ok());
+        assert_eq!(rt;
+            run_on_threads(&rt, rt.alloc(), &core, &job, workers),
+            Some(1)
+        );
+        let outputs = core.book().hold(&rt).outputs(&5).ok();
+        let mut found = 0_u64;
+        for output in outputs.into_iter().flatten() {
+            assert_eq!(rt; output, found.saturating_add(5));
+            found = found.saturating_add(1);
+        }
+        assert_eq!(rt; found, workers as u64);
+    }
     Ok(())
 }

@@ -4,7 +4,7 @@ ghost use Rattle.std.proofs.Common.{rules};
 ghost use Rattle.std.specs.Prelude.{◌≡◌, ◌+◌, IfOk, IfSome};
 
 use rayon_broadcasts::{
-    BroadcastBook, BroadcastCore, BroadcastLists, NoAnswers, SharedJob, Unpushed,
+    BroadcastBook, BroadcastCore, BroadcastLists, BroadcastQueue, NoAnswers, SharedJob, Unpushed,
 };
 use rayon_jobs::{Done, JobKind, NoHandler};
 use rayon_words::Refusal;
@@ -37,6 +37,14 @@ impl JobKind for Share {
 
     fn tag(&self) -> u64 {
         self.0
+    }
+}
+
+// Pushes the pieces, which share a place of their own, and tells whether they are in the lists.
+fn push(lists: &mut BroadcastLists<u64>, pieces: Vec<u64>, alloc: Global) -> bool {
+    match SharedJob::new(alloc) {
+        Ok(place) => lists.push_each(pieces, &place, Share(0)).is_ok(),
+        Err(_) => false,
     }
 }
 
@@ -113,7 +121,7 @@ fn pieces_are_taken_by_worker_the_oldest_first(rt: HostRuntime) -> Result<(), Fa
     assert!(rt; lists.is_empty(1));
     for broadcast in [10, 20] {
         let pieces = Vec::from_slice(rt.alloc(), &[broadcast, broadcast + 1, broadcast + 2])?;
-        assert!(rt; lists.push_each(pieces).is_ok());
+        assert!(rt; push(&mut lists, pieces, rt.alloc()));
     }
     assert_eq!(rt; lists.take_oldest(1), Some(11));
     assert_eq!(rt; lists.take_oldest(0), Some(10));
@@ -123,7 +131,7 @@ fn pieces_are_taken_by_worker_the_oldest_first(rt: HostRuntime) -> Result<(), Fa
     assert!(rt; !lists.is_empty(1));
     assert_eq!(rt; lists.take_oldest(2), Some(12));
     let pieces = Vec::from_slice(rt.alloc(), &[30, 31, 32])?;
-    assert!(rt; lists.push_each(pieces).is_ok());
+    assert!(rt; push(&mut lists, pieces, rt.alloc()));
     assert_eq!(rt; lists.take_oldest(0), Some(30));
     assert_eq!(rt; lists.take_oldest(1), Some(21));
     assert_eq!(rt; lists.take_oldest(1), Some(31));
@@ -140,13 +148,18 @@ fn pieces_of_a_wrong_number_come_back(rt: HostRuntime) -> Result<(), Fail> {
         let mut lists = BroadcastLists::new(rt.alloc(), workers)?;
         for numbers in [[].as_slice(), [5].as_slice(), [5, 6, 7].as_slice()] {
             let pieces = Vec::from_slice(rt.alloc(), numbers)?;
-            match lists.push_each(pieces) {
-                Ok(()) => assert_eq!(rt; numbers.len(), workers),
-                Err(Unpushed::WrongNumber(back)) => {
+            let place = SharedJob::new(rt.alloc())?;
+            match lists.push_each(pieces, &place, Share(5)) {
+                Ok(()) => {
+                    assert_eq!(rt; numbers.len(), workers);
+                    assert!(rt; matches!(place.job(), Some(Share(5))));
+                }
+                Err((Unpushed::WrongNumber(back), Share(5))) => {
                     assert!(rt; numbers.len() != workers);
                     assert_eq!(rt; back.as_slice(), numbers);
+                    assert!(rt; place.job().is_none());
                 }
-                Err(Unpushed::NoRoom(_)) => panic!(rt; "no room"),
+                Err(_) => panic!(rt; "another refusal, or another job"),
             }
         }
         for worker in 0..workers {
@@ -154,6 +167,109 @@ fn pieces_of_a_wrong_number_come_back(rt: HostRuntime) -> Result<(), Fail> {
             assert_eq!(rt; pushed.is_some(), workers == 1 || workers == 3);
             assert!(rt; lists.is_empty(worker));
         }
+    }
+    Ok(())
+}
+
+#[test]
+fn a_filled_place_refuses_its_pieces(rt: HostRuntime) -> Result<(), Fail> {
+    let mut lists = BroadcastLists::new(rt.alloc(), 2)?;
+    let place = SharedJob::new(rt.alloc())?;
+    assert!(rt; place.put(Share(5)).is_ok());
+    let pieces = Vec::from_slice(rt.alloc(), &[10, 11])?;
+    match lists.push_each(pieces, &place, Share(6)) {
+        Err((Unpushed::Filled(back), Share(6))) => {
+            assert_eq!(rt; back.as_slice(), [10, 11].as_slice());
+        }
+        _ => panic!(rt; "another answer"),
+    }
+    assert!(rt; matches!(place.job(), Some(Share(5))));
+    assert!(rt; lists.is_empty(0) && lists.is_empty(1));
+    Ok(())
+}
+
+#[test]
+fn a_queue_gives_each_worker_its_pieces(rt: HostRuntime) -> Result<(), Fail> {
+    let queue = BroadcastQueue::new(rt.alloc(), 2)?;
+    assert!(rt; queue.is_empty(&rt, 0) && queue.is_empty(&rt, 2));
+    assert_eq!(rt; queue.take_oldest(&rt, 0), None);
+    for broadcast in [10, 20] {
+        let pieces = Vec::from_slice(rt.alloc(), &[broadcast, broadcast + 1])?;
+        let place = SharedJob::new(rt.alloc())?;
+        assert!(rt; queue.push_each(&rt, pieces, &place, Share(5)).is_ok());
+        assert!(rt; matches!(place.job(), Some(Share(5))));
+    }
+    assert!(rt; !queue.is_empty(&rt, 0) && !queue.is_empty(&rt, 1) && queue.is_empty(&rt, 2));
+    assert_eq!(rt; queue.take_oldest(&rt, 1), Some(11));
+    assert_eq!(rt; queue.take_oldest(&rt, 1), Some(21));
+    assert_eq!(rt; queue.take_oldest(&rt, 1), None);
+    assert!(rt; queue.is_empty(&rt, 1) && !queue.is_empty(&rt, 0));
+    assert_eq!(rt; queue.take_oldest(&rt, 2), None);
+    let pieces = Vec::from_slice(rt.alloc(), &[30])?;
+    let place = SharedJob::new(rt.alloc())?;
+    match queue.push_each(&rt, pieces, &place, Share(6)) {
+        Err((Unpushed::WrongNumber(back), Share(6))) => {
+            assert_eq!(rt; back.as_slice(), [30].as_slice());
+        }
+        _ => panic!(rt; "another answer"),
+    }
+    assert_eq!(rt; queue.take_oldest(&rt, 0), Some(10));
+    assert_eq!(rt; queue.take_oldest(&rt, 0), Some(20));
+    assert!(rt; queue.is_empty(&rt, 0) && queue.is_empty(&rt, 1));
+    Ok(())
+}
+
+// Takes so many pieces of this worker as they come, and tells whether they were its own, the oldest first, and all.
+fn take_all<R: Wait>(rt: &R, queue: &BroadcastQueue<u64>, worker: usize, number: u64) -> bool {
+    let mut taken = 0_u64;
+    for _ in rt.forever() {
+        if taken == number {
+            return queue.is_empty(rt, worker);
+        }
+        match queue.take_oldest(rt, worker) {
+            Some(piece) if piece != taken.saturating_mul(10).saturating_add(worker as u64) => {
+                return false;
+            }
+            Some(_) => taken = taken.saturating_add(1),
+            None => thread::yield_now(),
+        }
+    }
+    false
+}
+
+// Broadcasts so often to three workers, and tells whether each broadcast was pushed.
+fn push_all<R: Wait>(rt: &R, alloc: Global, queue: &BroadcastQueue<u64>, number: u64) -> bool {
+    for broadcast in 0..number {
+        let first = broadcast.saturating_mul(10);
+        let numbers = [first, first.saturating_add(1), first.saturating_add(2)];
+        let (Ok(pieces), Ok(place)) = (Vec::from_slice(alloc, &numbers), SharedJob::new(alloc))
+        else {
+            return false;
+        };
+        if queue
+            .push_each(rt, pieces, &place, Share(broadcast))
+            .is_err()
+        {
+            return false;
+        }
+    }
+    true
+}
+
+// Three threads take the pieces of a thousand broadcasts while these are pushed.
+#[test]
+fn workers_take_pieces_while_others_come(rt: HostRuntime) -> Result<(), Fail> {
+    let queue = Arc::new(rt.alloc(), BroadcastQueue::new(rt.alloc(), 3)?)?;
+    let mut threads = Vec::new(rt.alloc());
+    for worker in 0..3 {
+        let theirs = rt;
+        let their_queue = Arc::try_clone(&queue)?;
+        let take = move || take_all(&theirs, &their_queue, worker, 1000);
+        threads.push(thread::spawn(&rt, take)?)?;
+    }
+    assert!(rt; push_all(&rt, rt.alloc(), &queue, 1000));
+    for thread in threads {
+        assert!(rt; thread.join(&rt));
     }
     Ok(())
 }

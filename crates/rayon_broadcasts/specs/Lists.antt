@@ -5,7 +5,7 @@ use Rattle.std.specs.declared.vec.Vec.{Vec}
 use Rattle.std.specs.declared.collections.VecDeque.{VecDeque}
 use Rattle.std.specs.VecDeque.{deque_len, deque_capacity}
 use Rattle.rayon_broadcasts.specs.declared.broadcast_lists.Unpushed.{Unpushed}
-use Rattle.rayon_broadcasts.specs.declared.broadcast_lists.Unpushed.TheVariants.{NoRoom, WrongNumber}
+use Rattle.rayon_broadcasts.specs.declared.broadcast_lists.Unpushed.TheVariants.{Filled, NoRoom, WrongNumber}
 
 module _ {T : Type 0} where
   -- the list of this worker; empty where there is no such worker
@@ -23,10 +23,17 @@ module _ {T : Type 0} where
       × (length after ≡ length before)
       × ((worker : ℕ) (piece : T) → slice_get pieces worker ≡ Some piece → list_of after worker ≡ list_of before worker ++ piece ∷ [])
 
-  -- the pieces came back, for want of memory or because they were not as many as the workers
+  -- the pieces came back: for want of memory, since they were not as many as the workers, or since their place had a job
   abbrev pub BackBy : List (List T) → Vec T Global → Unpushed T → Type 0
   BackBy lists pieces (NoRoom back) = (back ≡ pieces) × (length pieces.items ≡ length lists)
   BackBy lists pieces (WrongNumber back) = (back ≡ pieces) × (length pieces.items ≢ length lists)
+  BackBy lists pieces (Filled back) = (back ≡ pieces) × (length pieces.items ≡ length lists)
+
+  -- the same of who doesn't know the lists
+  abbrev pub IsBack : Vec T Global → Unpushed T → Type 0
+  IsBack pieces (NoRoom back) = back ≡ pieces
+  IsBack pieces (WrongNumber back) = back ≡ pieces
+  IsBack pieces (Filled back) = back ≡ pieces
 
   -- a list has room for one piece more
   abbrev pub HasRoom : VecDeque T Global → Type 0

@@ -2,6 +2,7 @@
 ghost use Rattle.rayon_broadcasts.specs.Lists.{list_of, items_of, PushedEach, BackBy, HasRoom};
 ghost use Rattle.std.specs.Prelude.{◌≡◌, ◌↔◌, ◌≤◌, length, map, replicate, slice_set, vec_len, vec_capacity, All, IfOk, IfErr, IsTrue, MatchOption, MatchResult, Some, [], ◌∷◌, ◌++◌};
 
+use crate::shared_job::SharedJob;
 use rayon_words::Refusal;
 use std::alloc::Global;
 use std::collections::VecDeque;
@@ -14,6 +15,8 @@ pub enum Unpushed<T> {
     NoRoom(Vec<T>),
     /// There are fewer pieces than workers, or more.
     WrongNumber(Vec<T>),
+    /// The place that the pieces share has a job already.
+    Filled(Vec<T>),
 }
 
 /// The pieces of broadcasts that wait to be run, in a list for each worker, the oldest first. A broadcast has one piece
@@ -54,19 +57,27 @@ impl<T: Drop> BroadcastLists<T> {
         self.lists.len()
     }
 
-    /// Puts each piece last in the list of the worker with its index. Refused `NoRoom` for want of memory, and
-    /// `WrongNumber` where there are not just as many pieces as workers: the pieces come back, and all lists are as
-    /// before.
-    pub fn push_each(&mut self, pieces: Vec<T>) -> Result<(), Unpushed<T>>
+    /// Puts the job into the place that the pieces share, and each piece last in the list of the worker with its index.
+    /// Refused `NoRoom` for want of memory, `WrongNumber` where there are not just as many pieces as workers, and
+    /// `Filled` where the place has a job already: pieces and job come back, and all lists are as before.
+    pub fn push_each<J: Drop>(
+        &mut self,
+        pieces: Vec<T>,
+        place: &SharedJob<J>,
+        job: J,
+    ) -> Result<(), (Unpushed<T>, J)>
         ensures { MatchResult result
             (λ _. PushedEach self.old pieces.items self.new)
-            (λ e. BackBy self.old pieces e × (self.new ≡ self.old)) }
+            (λ e. BackBy self.old pieces e.0 × (e.1 ≡ job) × (self.new ≡ self.old)) }
     {
         if pieces.len() != self.lists.len() {
-            return Err(Unpushed::WrongNumber(pieces));
+            return Err((Unpushed::WrongNumber(pieces), job));
         }
         if make_room(&mut self.lists).is_err() {
-            return Err(Unpushed::NoRoom(pieces));
+            return Err((Unpushed::NoRoom(pieces), job));
+        }
+        if let Err(job) = place.put(job) {
+            return Err((Unpushed::Filled(pieces), job));
         }
         push_reserved_each(&mut self.lists, pieces);
         Ok(())

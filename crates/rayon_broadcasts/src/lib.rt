@@ -5,9 +5,11 @@
 mod broadcast_book;
 mod broadcast_core;
 mod broadcast_lists;
+mod broadcast_queue;
 mod shared_job;
 
 pub use broadcast_book::{BroadcastBook, NoAnswers};
 pub use broadcast_core::BroadcastCore;
 pub use broadcast_lists::{BroadcastLists, Unpushed};
+pub use broadcast_queue::BroadcastQueue;
 pub use shared_job::SharedJob;

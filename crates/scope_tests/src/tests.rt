@@ -301,8 +301,8 @@ fn threads_spawn_into_a_scope(rt: HostRuntime) -> Result<(), Fail> {
     Ok(())
 }
 
-// A scope takes no job by another pool, and ends without it. Scopes of two pools stand nested, and the inner body
-// spawns into both.
+// A scope takes no job by another pool, and ends without it. Scopes of two pools, one of each kind, stand nested, and
+// the inner body spawns into both.
 #[test]
 fn scopes_of_two_pools(rt: HostRuntime) -> Result<(), Fail> {
     let alloc = rt.alloc();
@@ -312,7 +312,7 @@ fn scopes_of_two_pools(rt: HostRuntime) -> Result<(), Fail> {
     let runs = no_runs(&rt, alloc);
     let mut inside = Err(Trouble::Lost);
     let ended = one.in_place_scope(&rt, alloc, |outer| {
-        let ended = two.in_place_scope(&rt, alloc, |inner| {
+        let ended = two.in_place_scope_fifo(&rt, alloc, |inner| {
             let wrong = inject(&rt, alloc, &one, inner, &runs, 8, Deed::End(Ok(8)));
             inject(&rt, alloc, &one, outer, &runs, 2, Deed::End(Ok(2)))?;
             inject(&rt, alloc, &two, inner, &runs, 3, Deed::End(Ok(3)))?;
@@ -330,36 +330,116 @@ fn scopes_of_two_pools(rt: HostRuntime) -> Result<(), Fail> {
     Ok(())
 }
 
-// Scopes of four pools stand nested, of both kinds in turn. The innermost body spawns a job into each, whose output is
-// at number 0 of its own scope.
+// How nested scopes are opened, each on a pool of its own: the source of the pools' numbers, how many workers each pool
+// has, and whether the scopes are opened in order.
+#[derive(Clone, Copy)]
+struct Nest<'a> {
+    ids: &'a Ids,
+    workers: usize,
+    in_order: bool,
+}
+
+// A share of a scope that stands open, and the scope's pool.
+#[derive(Drop)]
+struct Open {
+    pool: PoolRef<Errand>,
+    scope: Scope<Errand>,
+}
+
+// These scopes, and one more that stands open on this pool.
+fn with_share(
+    alloc: Global,
+    mut open: Vec<Open>,
+    pool: &PoolRef<Errand>,
+    scope: &Scope<Errand>,
+) -> Result<Vec<Open>, Trouble> {
+    let pool = pool.pool_ref().map_err(|_| Trouble::Lost)?;
+    let scope = scope.share(alloc).map_err(|_| Trouble::Lost)?;
+    open.push(Open { pool, scope }).map_err(|_| Trouble::Lost)?;
+    Ok(open)
+}
+
+// Spawns a job into each of these scopes: its name and output are the scope's place among them. Answers 0 where each
+// job has the number 0.
+fn inject_each<R: Wait>(
+    rt: &R,
+    alloc: Global,
+    open: Vec<Open>,
+    runs: &Arc<AtomicU64>,
+) -> Result<u64, Trouble> {
+    let mut numbers = 0_u64;
+    for (name, share) in (0_u64..).zip(open) {
+        let Open { pool, mut scope } = share;
+        let deed = Deed::End(Ok(name));
+        numbers |= inject(rt, alloc, &pool, &mut scope, runs, name, deed)?;
+    }
+    Ok(numbers)
+}
+
+// The same as `digits`, of a scope that gave one output. A fault where it gave another number of them.
+fn digits_of_one<B: Drop>(
+    ended: Result<Ended<u64, Vec<Done<Errand>>>, CallError<Trouble, B>>,
+) -> Result<u64, Trouble> {
+    if let Ok(ended) = &ended {
+        if ended.outputs.len() != 1 {
+            return Err(Trouble::Lost);
+        }
+    }
+    digits(ended)
+}
+
+// Opens so many scopes more in one another. The innermost body spawns a job into each that stands open. Answers the
+// digits of what these scopes gave, the innermost first.
+fn nested<R: Threads + Wait + Abort + Copy + Send + 'static>(
+    rt: &R,
+    alloc: Global,
+    nest: Nest<'_>,
+    left: u64,
+    open: Vec<Open>,
+    runs: &Arc<AtomicU64>,
+) -> Result<u64, Trouble> {
+    let Some(left) = left.checked_sub(1) else {
+        return inject_each(rt, alloc, open, runs);
+    };
+    let pool = pool_with(rt, alloc, nest.workers, nest.ids);
+    let body = |scope: &mut Scope<Errand>| {
+        let open = with_share(alloc, open, &pool, scope)?;
+        nested(rt, alloc, nest, left, open, runs)
+    };
+    let ended = if nest.in_order {
+        pool.in_place_scope_fifo(rt, alloc, body)
+    } else {
+        pool.in_place_scope(rt, alloc, body)
+    };
+    let found = digits_of_one(ended);
+    pool.end_and_join(rt);
+    found
+}
+
+// The innermost body of ten nested scopes, of ten pools, in order or not, spawns a job into each, which runs once, and
+// whose output is the only one of its scope, at number 0.
 #[test]
-fn scopes_of_four_pools(rt: HostRuntime) -> Result<(), Fail> {
+fn scopes_of_ten_pools(rt: HostRuntime) -> Result<(), Fail> {
     let alloc = rt.alloc();
-    let ids = Ids::new();
-    let one = pool_with(&rt, alloc, 1, &ids);
-    let two = pool_with(&rt, alloc, 1, &ids);
-    let three = pool_with(&rt, alloc, 1, &ids);
-    let four = pool_with(&rt, alloc, 1, &ids);
-    let runs = no_runs(&rt, alloc);
-    let found = digits(one.in_place_scope(&rt, alloc, |first| {
-        digits(two.in_place_scope_fifo(&rt, alloc, |second| {
-            digits(three.in_place_scope(&rt, alloc, |third| {
-                digits(four.in_place_scope_fifo(&rt, alloc, |fourth| {
-                    let mut numbers = inject(&rt, alloc, &one, first, &runs, 1, Deed::End(Ok(1)))?;
-                    numbers |= inject(&rt, alloc, &two, second, &runs, 2, Deed::End(Ok(2)))?;
-                    numbers |= inject(&rt, alloc, &three, third, &runs, 3, Deed::End(Ok(3)))?;
-                    numbers |= inject(&rt, alloc, &four, fourth, &runs, 4, Deed::End(Ok(4)))?;
-                    Ok(numbers)
-                }))
-            }))
-        }))
-    }));
-    one.end_and_join(&rt);
-    two.end_and_join(&rt);
-    three.end_and_join(&rt);
-    four.end_and_join(&rt);
-    assert_eq!(rt; found, Ok(4_321));
-    assert_eq!(rt; runs.load(Ordering::SeqCst), 4);
+    for (workers, in_order) in [
+        (1, false),
+        (1, true),
+        (2, false),
+        (2, true),
+        (4, false),
+        (4, true),
+    ] {
+        let ids = Ids::new();
+        let runs = no_runs(&rt, alloc);
+        let nest = Nest {
+            ids: &ids,
+            workers,
+            in_order,
+        };
+        let found = nested(&rt, alloc, nest, 10, Vec::new(alloc), &runs);
+        assert_eq!(rt; found, Ok(9_876_543_210));
+        assert_eq!(rt; runs.load(Ordering::SeqCst), 10);
+    }
     Ok(())
 }
 

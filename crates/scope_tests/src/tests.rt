@@ -9,8 +9,8 @@ use std::process::Abort;
 use std::sync::atomic::{AtomicU64, Ordering};
 use std::sync::{Arc, Barrier, Wait};
 use std::test::Fail;
-use std::thread;
 use std::thread::{JoinHandle, Threads};
+use std::{mem, thread};
 
 // A pool of so many workers.
 fn pool_of<R: Threads + Wait + Abort + Copy + Send + 'static>(
@@ -81,8 +81,10 @@ enum Outcome {
     Fault(Trouble),
     // It was refused.
     Refused(Refusal),
-    // An output was lost.
-    Lost,
+    // An output does not meet the receipt of its number.
+    Foreign,
+    // No outputs were found.
+    Missing,
 }
 
 // What a scope gave.
@@ -93,7 +95,8 @@ fn outcome_of<B: Drop>(
         Ok(ended) => Outcome::Ended(ended.value, ended.outputs.len()),
         Err(CallError::Fault(trouble)) => Outcome::Fault(trouble),
         Err(CallError::Refused(refusal, _body)) => Outcome::Refused(refusal),
-        Err(CallError::Foreign | CallError::Missing) => Outcome::Lost,
+        Err(CallError::Foreign) => Outcome::Foreign,
+        Err(CallError::Missing) => Outcome::Missing,
     }
 }
 
@@ -440,6 +443,31 @@ fn scopes_of_ten_pools(rt: HostRuntime) -> Result<(), Fail> {
         assert_eq!(rt; found, Ok(9_876_543_210));
         assert_eq!(rt; runs.load(Ordering::SeqCst), 10);
     }
+    Ok(())
+}
+
+// Two nested scopes that a body exchanged for one another both answer `Foreign`, since neither output meets the receipt
+// of the other, and both jobs have run.
+#[test]
+fn exchanged_scopes_are_foreign(rt: HostRuntime) -> Result<(), Fail> {
+    let alloc = rt.alloc();
+    let pool = pool_of(&rt, alloc, 1);
+    let runs = no_runs(&rt, alloc);
+    let mut inside = None;
+    let ended = pool.in_place_scope(&rt, alloc, |outer| {
+        inject(&rt, alloc, &pool, outer, &runs, 1, Deed::End(Ok(1)))?;
+        let ended = pool.in_place_scope(&rt, alloc, |inner| {
+            let number = inject(&rt, alloc, &pool, inner, &runs, 2, Deed::End(Ok(2)))?;
+            mem::swap(inner, outer);
+            Ok(number)
+        });
+        inside = Some(outcome_of(ended));
+        Ok(0)
+    });
+    let found = (outcome_of(ended), inside);
+    pool.end_and_join(&rt);
+    assert_eq!(rt; found, (Outcome::Foreign, Some(Outcome::Foreign)));
+    assert_eq!(rt; runs.load(Ordering::SeqCst), 2);
     Ok(())
 }
 

@@ -150,8 +150,9 @@ fn pieces_of_a_wrong_number_come_back(rt: HostRuntime) -> Result<(), Fail> {
             let pieces = Vec::from_slice(rt.alloc(), numbers)?;
             let place = SharedJob::new(rt.alloc())?;
             match lists.push_each(pieces, &place, Share(5)) {
-                Ok(()) => {
+                Ok(there) => {
                     assert_eq!(rt; numbers.len(), workers);
+                    assert_eq!(rt; there.0, 5);
                     assert!(rt; matches!(place.job(), Some(Share(5))));
                 }
                 Err((Unpushed::WrongNumber(back), Share(5))) => {

@@ -59,15 +59,16 @@ impl<T: Drop> BroadcastLists<T> {
 
     /// Puts the job into the place that the pieces share, and each piece last in the list of the worker with its index.
     /// Refused `NoRoom` for want of memory, `WrongNumber` where there are not just as many pieces as workers, and
-    /// `Filled` where the place has a job already: pieces and job come back, and all lists are as before.
-    pub fn push_each<J: Drop>(
+    /// `Filled` where the place has a job already: pieces and job come back, and all lists are as before. Else the job is
+    /// lent as it stands there.
+    pub fn push_each<'p, J: Drop>(
         &mut self,
         pieces: Vec<T>,
-        place: &SharedJob<J>,
+        place: &'p SharedJob<J>,
         job: J,
-    ) -> Result<(), (Unpushed<T>, J)>
+    ) -> Result<&'p J, (Unpushed<T>, J)>
         ensures { MatchResult result
-            (λ _. PushedEach self.old pieces.items self.new)
+            (λ there. (there.now ≡ job) × PushedEach self.old pieces.items self.new)
             (λ e. BackBy self.old pieces e.0 × (e.1 ≡ job) × (self.new ≡ self.old)) }
     {
         if pieces.len() != self.lists.len() {
@@ -76,11 +77,12 @@ impl<T: Drop> BroadcastLists<T> {
         if make_room(&mut self.lists).is_err() {
             return Err((Unpushed::NoRoom(pieces), job));
         }
-        if let Err(job) = place.put(job) {
-            return Err((Unpushed::Filled(pieces), job));
-        }
+        let there = match place.put(job) {
+            Ok(there) => there,
+            Err(job) => return Err((Unpushed::Filled(pieces), job)),
+        };
         push_reserved_each(&mut self.lists, pieces);
-        Ok(())
+        Ok(there)
     }
 
     /// Takes the oldest piece of this worker's list. None exactly where that is empty, or there is no such worker. It

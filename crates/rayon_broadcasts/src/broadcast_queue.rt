@@ -1,6 +1,6 @@
 //! The broadcast lists of a pool, as its threads share them.
 ghost use Rattle.rayon_broadcasts.specs.Lists.{IsBack};
-ghost use Rattle.std.specs.Prelude.{◌≡◌, IfErr};
+ghost use Rattle.std.specs.Prelude.{◌≡◌, IfErr, MatchResult};
 
 use crate::broadcast_lists::{BroadcastLists, Unpushed};
 use crate::shared_job::SharedJob;
@@ -33,21 +33,21 @@ impl<T: Drop> BroadcastQueue<T> {
 
     /// Puts the job into the place that the pieces share, and each piece last in the list of the worker with its index,
     /// in one step: no worker takes a piece before all are there. Refused as `BroadcastLists::push_each` is, with the
-    /// pieces and the job back, and all lists as before.
-    pub fn push_each<R: Wait, J: Drop>(
+    /// pieces and the job back, and all lists as before. Else the job is lent as it stands in its place.
+    pub fn push_each<'p, R: Wait, J: Drop>(
         &self,
         rt: &R,
         pieces: Vec<T>,
-        place: &SharedJob<J>,
+        place: &'p SharedJob<J>,
         job: J,
-    ) -> Result<(), (Unpushed<T>, J)>
-        ensures back { IfErr result (λ e. IsBack pieces e.0 × (e.1 ≡ job)) }
+    ) -> Result<&'p J, (Unpushed<T>, J)>
+        ensures { MatchResult result (λ there. there.now ≡ job) (λ e. IsBack pieces e.0 × (e.1 ≡ job)) }
     {
         let count = pieces.len() as u64;
         let mut lists = self.lists.lock(rt);
-        lists.push_each(pieces, place, job)?;
+        let there = lists.push_each(pieces, place, job)?;
         self.queued.fetch_add(count, Ordering::SeqCst);
-        Ok(())
+        Ok(there)
     }
 
     /// Takes the oldest piece of this worker's list, where it has one. It takes no memory.

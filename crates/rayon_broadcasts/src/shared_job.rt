@@ -1,5 +1,5 @@
 //! The job of a broadcast, as its pieces share it.
-ghost use Rattle.std.specs.Prelude.{◌≡◌, replicate, IfOk, IfErr};
+ghost use Rattle.std.specs.Prelude.{◌≡◌, IfOk, IfErr, MatchResult};
 
 use rayon_words::Refusal;
 use std::alloc::Global;
@@ -46,12 +46,12 @@ impl<J: Drop> SharedJob<J> {
         }
     }
 
-    /// Puts the job in. Where there is one already it comes back.
-    pub fn put(&self, job: J) -> Result<(), J>
-        ensures back { IfErr result (λ back. back ≡ job) }
+    /// Puts the job in, and lends it as it stands there. Where there is one already it comes back.
+    pub fn put(&self, job: J) -> Result<&J, J>
+        ensures { MatchResult result (λ there. there.now ≡ job) (λ back. back ≡ job) }
     {
         match self.place.try_set(job) {
-            Ok(_) => Ok(()),
+            Ok(token) => Ok(self.place.value(&token)),
             Err(back) => Err(back),
         }
     }

@@ -48,6 +48,17 @@ fn push(lists: &mut BroadcastLists<u64>, pieces: Vec<u64>, alloc: Global) -> boo
     }
 }
 
+// Puts the job into this place, as the push of a piece does. Whether it stands there now.
+fn fill(alloc: Global, place: &SharedJob<Share>, job: Share) -> bool {
+    let Ok(mut lists) = BroadcastLists::new(alloc, 1) else {
+        return false;
+    };
+    match Vec::from_slice(alloc, &[0]) {
+        Ok(pieces) => lists.push_each(pieces, place, job).is_ok(),
+        Err(_) => false,
+    }
+}
+
 // What a whole run of the job with this number answers.
 fn whole(number: u64) -> Done<Share> {
     Done::of_run(number, Ok(number))
@@ -176,7 +187,7 @@ fn pieces_of_a_wrong_number_come_back(rt: HostRuntime) -> Result<(), Fail> {
 fn a_filled_place_refuses_its_pieces(rt: HostRuntime) -> Result<(), Fail> {
     let mut lists = BroadcastLists::new(rt.alloc(), 2)?;
     let place = SharedJob::new(rt.alloc())?;
-    assert!(rt; place.put(Share(5)).is_ok());
+    assert!(rt; fill(rt.alloc(), &place, Share(5)));
     let pieces = Vec::from_slice(rt.alloc(), &[10, 11])?;
     match lists.push_each(pieces, &place, Share(6)) {
         Err((Unpushed::Filled(back), Share(6))) => {
@@ -381,14 +392,31 @@ fn a_shared_job_is_put_in_once(rt: HostRuntime) -> Result<(), Fail> {
     let job = SharedJob::new(rt.alloc())?;
     let share = job.share()?;
     assert!(rt; share.job().is_none());
-    assert!(rt; job.put(Share(5)).is_ok());
+    assert!(rt; fill(rt.alloc(), &job, Share(5)));
     assert!(rt; matches!(share.job(), Some(Share(5))));
-    assert!(rt; matches!(share.put(Share(6)), Err(Share(6))));
+    assert!(rt; !fill(rt.alloc(), &share, Share(6)));
     assert!(rt; matches!(job.job(), Some(Share(5))));
     drop(job);
     assert!(rt; matches!(share.job(), Some(Share(5))));
     let other: SharedJob<Share> = SharedJob::new(rt.alloc())?;
     assert!(rt; other.job().is_none());
+    assert!(rt; matches!(share.wait(&rt), Share(5)));
+    Ok(())
+}
+
+// Who waits for a job is lent it once another thread has put it in.
+#[test]
+fn a_shared_job_is_waited_for(rt: HostRuntime) -> Result<(), Fail> {
+    let job = SharedJob::new(rt.alloc())?;
+    let (theirs, share) = (rt, job.share()?);
+    let waiter = thread::Builder::new()
+        .spawn(&rt, move || matches!(share.wait(&theirs), Share(5)))
+        .expect(&rt, "a thread");
+    for _ in 0..1_000 {
+        thread::yield_now();
+    }
+    assert!(rt; fill(rt.alloc(), &job, Share(5)));
+    assert!(rt; waiter.join(&rt));
     Ok(())
 }
 
@@ -415,7 +443,7 @@ fn pieces_on_threads_share_a_job(rt: HostRuntime) -> Result<(), Fail> {
     for workers in [1, 2, 4, 16] {
         let core = Arc::new(rt.alloc(), BroadcastCore::new(rt.alloc(), 7, workers)?)?;
         let job = SharedJob::new(rt.alloc())?;
-        assert!(rt; job.put(Share(5)).is_ok());
+        assert!(rt; fill(rt.alloc(), &job, Share(5)));
         assert_eq!(rt;
             run_on_threads(&rt, rt.alloc(), &core, &job, workers),
             Some(1)

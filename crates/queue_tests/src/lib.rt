@@ -1,5 +1,5 @@
-//! Tests of the queues, of the tasks, of what scopes and broadcasts keep and of the drive of a pool of many workers. They
-//! have a crate of their own, since a crate with tests is proved twice.
+//! Tests of the queues, of the tasks, of what scopes and broadcasts keep and of the drive of a pool of many workers.
+//! They have a crate of their own, since a crate with tests is proved twice.
 #![tactic(auto)]
 
 #[cfg(test)]

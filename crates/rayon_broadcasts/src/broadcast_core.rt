@@ -10,8 +10,8 @@ use rayon_words::Refusal;
 use std::alloc::Global;
 use std::marker::Model;
 
-/// What a broadcast that waits and its pieces share: the count of those pieces that have not ended, and the book of what
-/// they answered, which is held from act to act. Contracts see the number of the broadcast's call, and its count.
+/// What a broadcast that waits and its pieces share: the count of those pieces that have not ended, and the book of
+/// what they answered, which is held from act to act. Contracts see the number of the broadcast's call, and its count.
 #[derive(Drop)]
 pub struct BroadcastCore<J: JobKind> {
     call: u64,
@@ -28,8 +28,8 @@ impl<J: JobKind> Model for BroadcastCore<J> {
 }
 
 impl<J: JobKind> BroadcastCore<J> {
-    /// Of the broadcast of this call to so many workers, none of whose pieces has ended. It takes all the memory that the
-    /// book ever takes. Refused `NoRoom`.
+    /// Of the broadcast of this call to so many workers, none of whose pieces has ended. It takes all the memory that
+    /// the book ever takes. Refused `NoRoom`.
     pub fn new(alloc: Global, call: u64, workers: usize) -> Result<BroadcastCore<J>, Refusal>
         ensures made { IfOk result (λ c. (c.call ≡ call) × (c.count.start ≡ workers)) }
         ensures refused { IfErr result (λ r. r ≡ NoRoom) }

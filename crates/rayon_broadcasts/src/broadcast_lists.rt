@@ -59,8 +59,8 @@ impl<T: Drop> BroadcastLists<T> {
 
     /// Puts the job into the place that the pieces share, and each piece last in the list of the worker with its index.
     /// Refused `NoRoom` for want of memory, `WrongNumber` where there are not just as many pieces as workers, and
-    /// `Filled` where the place has a job already: pieces and job come back, and all lists are as before. Else the job is
-    /// lent as it stands there.
+    /// `Filled` where the place has a job already: pieces and job come back, and all lists are as before. Else the job
+    /// is lent as it stands there.
     pub fn push_each<'p, J: Drop>(
         &mut self,
         pieces: Vec<T>,

@@ -1,5 +1,6 @@
-//! What broadcasts are made of: the lists of their pieces, one for each worker; the job that the pieces of one broadcast
-//! share; and of one that waits the count of the pieces that have not ended, and the book of what they answered.
+//! What broadcasts are made of: the lists of their pieces, one for each worker; the job that the pieces of one
+//! broadcast share; and of one that waits the count of the pieces that have not ended, and the book of what they
+//! answered.
 #![tactic(auto)]
 
 mod broadcast_book;

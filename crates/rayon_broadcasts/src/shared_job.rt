@@ -4,7 +4,7 @@ ghost use Rattle.std.specs.Prelude.{◌≡◌, IfOk, IfErr, MatchResult};
 use rayon_words::Refusal;
 use std::alloc::Global;
 use std::marker::Model;
-use std::sync::{Arc, OnceLock};
+use std::sync::{Arc, OnceLock, Wait};
 
 /// The job of a broadcast, as its pieces share it: a place that has no job until the call puts it in, once. So a call
 /// makes all its pieces first, and where memory is refused to one of them it still has the very job.
@@ -46,8 +46,9 @@ impl<J: Drop> SharedJob<J> {
         }
     }
 
-    /// Puts the job in, and lends it as it stands there. Where there is one already it comes back.
-    pub fn put(&self, job: J) -> Result<&J, J>
+    // Puts the job in, and lends it as it stands there. Where there is one already, or another thread is putting one
+    // in, it comes back. Only a push of pieces does so: whoever is lent the job has pushed them.
+    pub(crate) fn put(&self, job: J) -> Result<&J, J>
         ensures { MatchResult result (λ there. there.now ≡ job) (λ back. back ≡ job) }
     {
         match self.place.try_set(job) {
@@ -59,5 +60,10 @@ impl<J: Drop> SharedJob<J> {
     /// The job, once it was put in.
     pub fn job(&self) -> Option<&J> {
         self.place.get()
+    }
+
+    /// The job. It blocks until one was put in, so it blocks no piece that was taken from a queue.
+    pub fn wait<R: Wait>(&self, rt: &R) -> &J {
+        self.place.wait(rt)
     }
 }

@@ -4,6 +4,7 @@
 
 mod build_error;
 mod builder;
+mod configuration;
 mod end_after;
 mod environment;
 pub mod latch;
@@ -16,6 +17,7 @@ mod thread_start;
 // What jobs and calls are written with.
 pub use build_error::ThreadPoolBuildError;
 pub use builder::ThreadPoolBuilder;
+pub use configuration::Configuration;
 pub use end_after::EndAfter;
 pub use environment::max_num_threads;
 pub use rayon_books::{Ended, Receipt};

@@ -20,4 +20,6 @@ mod scope_rows;
 #[cfg(test)]
 mod scopes;
 #[cfg(test)]
+mod spawns;
+#[cfg(test)]
 mod tests;

@@ -248,11 +248,11 @@ impl<J: JobKind, N, S> ThreadPoolBuilder<J, N, S> {
         }
     }
 
-    /// Sets what starts each worker's thread in place of the pool: a closure of `ThreadBuilder<J>`, whose type it has to
-    /// write, that answers `io::Result<()>`. `build` hands it one for each worker, in the order of the indices, and it
-    /// sees to it that a thread of its own calls `ThreadBuilder::run`. Its error makes `build` answer `IOError`. Neither
-    /// a refused `build` nor `ThreadPool::end_and_join` joins such threads: they leave once the pool has ended, and
-    /// whoever has their handles may wait for that.
+    /// Sets what starts each worker's thread in place of the pool: a closure of `ThreadBuilder<J>`, whose type it has
+    /// to write, that answers `io::Result<()>`. `build` hands it one for each worker, in the order of the indices, and
+    /// it sees to it that a thread of its own calls `ThreadBuilder::run`. Its error makes `build` answer `IOError`.
+    /// Neither a refused `build` nor `ThreadPool::end_and_join` joins such threads: they leave once the pool has ended,
+    /// and whoever has their handles may wait for that. In rayon-core the type is inferred.
     pub fn spawn_handler<F>(self, spawn: F) -> ThreadPoolBuilder<J, N, CustomSpawn<F>>
     where
         S: Drop,

@@ -156,8 +156,8 @@ impl<J: JobKind, N> Configuration<J, N> {
 }
 
 impl<J: JobKind> ThreadPool<J> {
-    /// The pool of this configuration, as `ThreadPoolBuilder::build` makes one. As in rayon-core it is out of use: write
-    /// `ThreadPoolBuilder`.
+    /// The pool of this configuration, as `ThreadPoolBuilder::build` makes one, and refused as there. As in rayon-core
+    /// it is out of use: write `ThreadPoolBuilder`.
     pub fn new<N: ThreadNames, R: Threads + Wait + Copy + Send + 'static>(
         rt: &R,
         alloc: Global,

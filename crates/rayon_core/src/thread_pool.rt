@@ -134,8 +134,8 @@ impl<J: JobKind> DetachedPool<J> {
     }
 }
 
-// Gives up the unit of the terminate count that stands for this pool's value, and joins those of the workers' threads of
-// which there is a handle.
+// Gives up the unit of the terminate count that stands for this pool's value, and joins those of the workers' threads
+// of which there is a handle.
 pub(crate) fn end_workers<J: JobKind, R: Threads + Wait>(
     rt: &R,
     pool: &PoolRef<J>,

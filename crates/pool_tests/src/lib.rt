@@ -20,6 +20,4 @@ mod scope_rows;
 #[cfg(test)]
 mod scopes;
 #[cfg(test)]
-mod spawns;
-#[cfg(test)]
 mod tests;

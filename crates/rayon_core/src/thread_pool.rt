@@ -14,8 +14,7 @@ use std::thread::{JoinHandle, Threads};
 pub struct ThreadPool<J: JobKind> {
     pool: PoolRef<J>,
     hold: PoolHold,
-    // Of each worker the handle of its thread, or None where a spawn handler started it.
-    workers: Vec<Option<JoinHandle<()>>>,
+    workers: Vec<JoinHandle<()>>,
 }
 
 impl<J: JobKind> Model for ThreadPool<J> {
@@ -40,11 +39,11 @@ impl<J: JobKind> Deref for ThreadPool<J> {
 }
 
 impl<J: JobKind> ThreadPool<J> {
-    // The pool whose workers were started, each in a thread of its own, by their handles.
-    pub(crate) fn of(
+    // The pool whose workers were started, each in a thread of its own.
+    pub(crate) fn new(
         pool: PoolRef<J>,
         hold: PoolHold,
-        workers: Vec<Option<JoinHandle<()>>>,
+        workers: Vec<JoinHandle<()>>,
     ) -> ThreadPool<J>
         requires workers { length workers.items ≡ pool.workers }
         requires own { hold ≡ pool.count }
@@ -87,7 +86,7 @@ impl<J: JobKind> ThreadPool<J> {
 
     /// Ends the pool as `end` does, and joins the workers' threads, which leave once nothing holds the pool. So this
     /// waits for detached jobs and for the waiting calls that other threads have made, and no thread of the pool is
-    /// left. Threads that a spawn handler has started it does not join: that is up to whoever has their handles.
+    /// left.
     pub fn end_and_join<R: Threads + Wait>(self, rt: &R) {
         let ThreadPool {
             pool,
@@ -134,20 +133,17 @@ impl<J: JobKind> DetachedPool<J> {
     }
 }
 
-// Gives up the unit of the terminate count that stands for this pool's value, and joins those of the workers' threads
-// of which there is a handle.
+// Gives up the unit of the terminate count that stands for this pool's value, and joins these workers.
 pub(crate) fn end_workers<J: JobKind, R: Threads + Wait>(
     rt: &R,
     pool: &PoolRef<J>,
     hold: PoolHold,
-    workers: Vec<Option<JoinHandle<()>>>,
+    workers: Vec<JoinHandle<()>>,
 )
     requires { hold ≡ pool.now.count }
 {
     end_pool(rt, pool, hold);
     for worker in workers {
-        if let Some(worker) = worker {
-            worker.join(rt);
-        }
+        worker.join(rt);
     }
 }

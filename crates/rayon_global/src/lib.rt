@@ -1,14 +1,12 @@
 //! The global pool, as a value of the program's, and the calls that are written alike inside a run and outside of it.
 #![tactic(auto)]
 
-mod broadcasts;
 mod calls;
 mod current;
 mod global_pool;
 mod outside;
 mod surroundings;
 
-pub use broadcasts::{Broadcasts, spawn_broadcast};
 pub use calls::{
     current_num_threads, current_thread_index, install, join, join as join_context, spawn,
     spawn_fifo,

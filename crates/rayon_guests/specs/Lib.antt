@@ -1,4 +1,3 @@
-pub mod Casts
 pub mod Paths
 pub mod Visiting
 pub mod Visits

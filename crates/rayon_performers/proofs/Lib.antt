@@ -1,5 +1,4 @@
 pub mod Begins
-pub mod Casts
 pub mod Drives
 pub mod Fifos
 pub mod Finds

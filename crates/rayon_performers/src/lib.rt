@@ -3,7 +3,6 @@
 
 mod acts;
 mod bench;
-mod cast;
 mod counting;
 mod detached;
 mod fifo;

@@ -3,6 +3,7 @@ ghost use Rattle.rayon_core.specs.Worker.{SameWorker};
 ghost use Rattle.std.specs.Prelude.{◌≡◌, ℕ, ◌+◌, ◌≤◌, IfOk};
 ghost use Rattle.std.proofs.Common.{rules};
 
+use crate::scopes::doubles;
 use rayon_core::{
     BroadcastContext, CallError, FnContext, ForkJoin, Job, JobKind, NoHandler, Refusal, Waits,
     WorkerThread,
@@ -17,6 +18,8 @@ pub enum Ask {
     Double(u32),
     /// Three times a number: twice it by a job, and the number itself by a closure beside it.
     Triple(u32),
+    /// Twice the sum of three numbers: twice each by a job of one scope.
+    Doubles(u32, u32, u32),
 }
 
 /// Why there is no answer.
@@ -58,9 +61,9 @@ impl JobKind for Ask {
 
     type Handler = NoHandler;
 
-    ghost use Rattle.uses.specs.declared.closure.Ask.TheVariants.{Double, Triple};
+    ghost use Rattle.uses.specs.declared.closure.Ask.TheVariants.{Double, Doubles, Triple};
 
-    ghost answers = { λ t r. IfOk r (λ v. v ≡ elim t [ Double n ↦ n + n | Triple n ↦ n + n + n ]) };
+    ghost answers = { λ t r. IfOk r (λ v. v ≡ elim t [ Double n ↦ n + n | Triple n ↦ n + n + n | Doubles a b c ↦ (a + a) + (b + b) + (c + c) ]) };
 
     ghost tag_of = { λ j. j };
 
@@ -82,6 +85,11 @@ impl Job for Ask {
         match self {
             Ask::Double(n) => n.checked_add(n).ok_or(AskFault::TooLarge),
             Ask::Triple(n) => triple(rt, alloc, w, n),
+            Ask::Doubles(a, b, c) => {
+                let (a, b, c) = doubles(rt, alloc, w, a, b, c)?;
+                let sum = a.checked_add(b).ok_or(AskFault::TooLarge)?;
+                sum.checked_add(c).ok_or(AskFault::TooLarge)
+            }
         }
     }
 

@@ -1,8 +1,8 @@
 //! A scope that a thread which is no worker opens on a pool: it spawns one job itself, and another thread one more.
 ghost use Rattle.std.specs.Prelude.{◌≡◌, ℕ, ◌+◌, IfOk};
 
-use crate::closure::AskFault;
-use crate::scopes::{Twice, double_at};
+use crate::closure::{Ask, AskFault};
+use crate::scopes::double_at;
 use rayon_core::{CallError, InPlaceCalls, PoolRef, Scope};
 use std::alloc::Global;
 use std::sync::Wait;
@@ -14,7 +14,7 @@ use std::thread::Threads;
 pub fn double_in_place<R: Threads + Wait + Copy + Send + 'static>(
     rt: &R,
     alloc: Global,
-    pool: &PoolRef<Twice>,
+    pool: &PoolRef<Ask>,
     own: u32,
     theirs: u32,
 ) -> Result<(u32, usize), AskFault>
@@ -32,8 +32,8 @@ pub fn double_in_place<R: Threads + Wait + Copy + Send + 'static>(
 fn spawn_both<R: Threads + Wait + Copy + Send + 'static>(
     rt: &R,
     alloc: Global,
-    pool: &PoolRef<Twice>,
-    scope: &mut Scope<Twice>,
+    pool: &PoolRef<Ask>,
+    scope: &mut Scope<Ask>,
     own: u32,
     theirs: u32,
 ) -> Result<u64, AskFault> {
@@ -42,12 +42,12 @@ fn spawn_both<R: Threads + Wait + Copy + Send + 'static>(
         return Err(AskFault::Lost);
     };
     let spawn = move || share
-        .inject(&handle, alloc, &their_pool, Twice::One(theirs))
+        .inject(&handle, alloc, &their_pool, Ask::Double(theirs))
         .is_ok();
     let Ok(other) = thread::spawn(rt, spawn) else {
         return Err(AskFault::Lost);
     };
-    let number = scope.inject(rt, alloc, pool, Twice::One(own))?;
+    let number = scope.inject(rt, alloc, pool, Ask::Double(own))?;
     other.join(rt);
     Ok(number)
 }

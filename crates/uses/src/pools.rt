@@ -1,10 +1,10 @@
 //! How a pool is made for each feature, lent and ended.
 ghost use Rattle.std.specs.Prelude.{◌≡◌, IfOk, false};
 
+use crate::closure::Ask;
 use crate::global::halves;
 use crate::in_place::double_in_place;
 use crate::migrated::Tell;
-use crate::scopes::Twice;
 use crate::server::serve;
 use crate::sort::Sort;
 use crate::sum::Sum;
@@ -104,7 +104,7 @@ fn twice_the_sum<R: Threads + Wait + Copy + Send + 'static>(
     ensures { IfOk result (λ v. v ≡ 22) }
 {
     let pool = ThreadPoolBuilder::new().build(rt, alloc, ids)?;
-    let sum = pool.install(rt, alloc, Twice::Sum(2, 3, 6));
+    let sum = pool.install(rt, alloc, Ask::Doubles(2, 3, 6));
     pool.end_and_join(rt);
     Ok(sum.map_err(CallError::without_sides)?)
 }

@@ -4,11 +4,12 @@ ghost use Rattle.std.specs.Arc.{arc_value};
 ghost use Rattle.std.specs.Prelude.{◌≡◌, ◌<◌};
 
 use crate::errand::Errand;
+use rayon_broadcasts::SharedJob;
 use rayon_guests::{Guest, Load};
-use rayon_machine_places::place::{Ending, OpenCall, Plan, Then};
+use rayon_machine_places::place::{Ending, OpenCall, Party, Plan, Then};
 use rayon_performers::{Bench, PoolHold, Registry, WorkerKit};
 use rayon_queues::XorShift64Star;
-use rayon_tasks::{Task, Work, task_parts};
+use rayon_tasks::{Task, Ticket, Work, pieces_of, task_parts};
 use rayon_words::Refusal;
 use std::alloc::Global;
 use std::process::Abort;
@@ -20,7 +21,7 @@ fn number_of(task: Option<Task<Errand>>) -> Option<u8> {
     match task {
         Some(task) => match task_parts(task) {
             (Work::Job(job), _, _) => Some(job.0),
-            (Work::Pair(_) | Work::Token, _, _) => None,
+            (Work::Pair(_) | Work::Piece(_) | Work::Token, _, _) => None,
         },
         None => None,
     }
@@ -165,5 +166,118 @@ fn the_seed_says_from_whom_a_thief_steals_first(rt: HostRuntime) -> Result<(), F
         seeds.any(|steal_seed| named(steal_seed, 0) != named(0, 0)),
         "one victim for all"
     );
+    Ok(())
+}
+
+// The name of a task, and the number of the errand of which it is a piece, if it is one.
+fn name_and_errand(task: Option<Task<Errand>>) -> Option<(u64, Option<u8>)> {
+    let task = task?;
+    let name = task.number();
+    let (work, _injected, _ticket) = task_parts(task);
+    let errand = match work {
+        Work::Piece(place) => match place.job() {
+            Some(job) => Some(job.0),
+            None => None,
+        },
+        Work::Job(_) | Work::Pair(_) | Work::Token => None,
+    };
+    Some((name, errand))
+}
+
+// A pool of two workers, each of which has a task in its own deque, whose name is the worker's index.
+fn two_benches<R: Wait + Abort>(
+    rt: &R,
+    alloc: Global,
+) -> (
+    Arc<Registry<Task<Errand>>, Global>,
+    Vec<Bench<Errand>>,
+    PoolHold,
+)
+    ensures own { result.2 ≡ (arc_value result.0).count }
+{
+    let (registry, kits, hold) = Registry::new(alloc, 2, 8, 0, false).expect(rt, "room");
+    let registry = Arc::new(alloc, registry).expect(rt, "room");
+    let mut benches = Vec::new(alloc);
+    for (index, kit) in kits.into_iter().enumerate() {
+        let share = Arc::try_clone(&registry).expect(rt, "room");
+        if index >= share.num_threads() {
+            break;
+        }
+        let mut bench = Bench::new(share, index, kit);
+        let offered = bench.offer(rt, alloc, index as u64, Errand(index as u8), false);
+        assert!(rt; offered.is_ok(), "room");
+        assert!(rt; benches.push(bench).is_ok(), "room");
+    }
+    (registry, benches, hold)
+}
+
+// Puts a piece of this errand into each of two workers' lists, under this name and the next one.
+fn push_pieces<R: Wait + Abort>(
+    rt: &R,
+    alloc: Global,
+    registry: &Registry<Task<Errand>>,
+    first: u64,
+    errand: u8,
+)
+    requires { first < 1000 }
+{
+    let ticket = Ticket::of_detached(alloc, Party::Caller(0), first).expect(rt, "room");
+    let place = SharedJob::new(alloc).expect(rt, "room");
+    let pieces = pieces_of(alloc, &place, &ticket, first, 2).expect(rt, "room");
+    let pushed = registry
+        .casts()
+        .push_each(rt, pieces, &place, Errand(errand));
+    assert!(rt; pushed.is_ok(), "room");
+}
+
+// A worker finds its own pieces of broadcasts, the oldest first, once its own deque is empty and before it steals, and
+// no piece of another worker.
+#[test]
+fn pieces_come_after_the_own_deque(rt: HostRuntime) -> Result<(), Fail> {
+    let alloc = rt.alloc();
+    let (registry, mut benches, hold) = two_benches(&rt, alloc);
+    push_pieces(&rt, alloc, &registry, 100, 7);
+    push_pieces(&rt, alloc, &registry, 200, 8);
+    let mut thief = benches.pop().expect(&rt, "a worker");
+    let mut other = benches.pop().expect(&rt, "a worker");
+    let found = [
+        name_and_errand(thief.find_work(&rt)),
+        name_and_errand(thief.find_work(&rt)),
+        name_and_errand(thief.find_work(&rt)),
+        name_and_errand(thief.find_work(&rt)),
+        name_and_errand(thief.find_work(&rt)),
+    ];
+    let left = [
+        name_and_errand(other.find_work(&rt)),
+        name_and_errand(other.take_local(&rt)),
+        name_and_errand(other.take_local(&rt)),
+    ];
+    end(&rt, &registry, hold);
+    let [own, piece, next, stolen, none] = found;
+    assert_eq!(rt; own, Some((1, None)));
+    assert_eq!(rt; (piece, next), (Some((101, Some(7))), Some((201, Some(8)))));
+    assert_eq!(rt; (stolen, none), (Some((0, None)), None));
+    assert_eq!(rt; left, [Some((100, Some(7))), Some((200, Some(8))), None]);
+    Ok(())
+}
+
+// A look at the own tasks gives the own deque's first, then the worker's pieces, the oldest first, and no more.
+#[test]
+fn a_local_look_gives_the_deque_before_pieces(rt: HostRuntime) -> Result<(), Fail> {
+    let alloc = rt.alloc();
+    let (registry, mut benches, hold) = two_benches(&rt, alloc);
+    push_pieces(&rt, alloc, &registry, 100, 7);
+    push_pieces(&rt, alloc, &registry, 200, 8);
+    let mut bench = benches.pop().expect(&rt, "a worker");
+    let found = [
+        name_and_errand(bench.take_local(&rt)),
+        name_and_errand(bench.take_local(&rt)),
+        name_and_errand(bench.take_local(&rt)),
+        name_and_errand(bench.take_local(&rt)),
+    ];
+    end(&rt, &registry, hold);
+    let [own, piece, next, none] = found;
+    assert_eq!(rt; (own, none), (Some((1, None)), None));
+    assert_eq!(rt; (piece, next), (Some((101, Some(7))), Some((201, Some(8)))));
     Ok(())
 }

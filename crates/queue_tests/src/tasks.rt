@@ -2,9 +2,12 @@
 //! result is taken once, and that tasks are made at all. What a task is made of stands in the contracts.
 ghost use Rattle.std.proofs.Common.{rules};
 
+use rayon_broadcasts::SharedJob;
 use rayon_jobs::{Done, JobKind, NoHandler};
-use rayon_machine_places::place::Ending;
-use rayon_tasks::{Call, Ticket, Work, task_of_job, task_of_pair, task_parts};
+use rayon_machine_places::place::{Ending, Party};
+use rayon_tasks::{
+    Call, Ticket, Work, pieces_of, row_of_names, task_of_job, task_of_pair, task_parts,
+};
 use std::alloc::Global;
 use std::sync::Wait;
 use std::test::*;
@@ -117,5 +120,34 @@ fn the_sides_of_a_pair_have_a_cell_each(rt: HostRuntime) -> Result<(), Fail> {
     }
     assert!(rt; taken(&rt, &first) == Some((4, Some(16))));
     assert!(rt; taken(&rt, &second) == Some((5, Some(25))));
+    Ok(())
+}
+
+#[test]
+fn pieces_have_names_in_a_row_and_one_job(rt: HostRuntime) -> Result<(), Fail> {
+    let ticket: Ticket<Errand> = Ticket::of_detached(rt.alloc(), Party::Caller(0), 3)?;
+    let place = SharedJob::new(rt.alloc())?;
+    let pieces = pieces_of(rt.alloc(), &place, &ticket, 100, 3)?;
+    let mut name = 100;
+    for piece in pieces {
+        assert_eq!(rt; piece.number(), name);
+        assert!(rt; piece.has_job() && !piece.is_single() && !piece.injected());
+        let (work, _, share) = task_parts(piece);
+        assert!(rt; matches!(work, Work::Piece(_)));
+        assert!(rt; share.is_detached() && share.is_alone());
+        name += 1;
+    }
+    assert_eq!(rt; name, 103);
+    Ok(())
+}
+
+#[test]
+fn rows_of_names_lie_above_all_names(rt: HostRuntime) -> Result<(), Fail> {
+    let half = 1 << 63;
+    assert_eq!(rt; row_of_names(3, 0), Some(half));
+    assert_eq!(rt; row_of_names(3, 7), Some(half + 21));
+    assert_eq!(rt; row_of_names(1, half - 2), Some(u64::MAX - 1));
+    assert_eq!(rt; row_of_names(1, half - 1), None);
+    assert_eq!(rt; row_of_names(65_535, half), None);
     Ok(())
 }

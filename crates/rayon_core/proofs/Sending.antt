@@ -14,11 +14,11 @@ module _ (J T O F H : RattleType) (g : kind.Ghosts J.Denot T.Denot O.Denot F.Den
   pub task_send : IsSend J → IsSync J → IsSend T → IsSend O → IsSend F → IsSend (task.the_row J T O F H g e)
   task_send s y a b c =
       both_send-Task J T O F H g e
-      (load.the_send J s) (ticket.the_send J T O F H g e a b c) (λ h p q. search (sendable, crosses) depth 20)
-      (load.the_sync J y) (ticket.the_sync J T O F H g e a b c) (λ h p q. search (sendable, crosses) depth 20)
+      (load.the_send J s y) (ticket.the_send J T O F H g e a b c) (λ h p q. search (sendable, crosses) depth 20)
+      (load.the_sync J s y) (ticket.the_sync J T O F H g e a b c) (λ h p q. search (sendable, crosses) depth 20)
 
   pub task_sync : IsSend J → IsSync J → IsSend T → IsSend O → IsSend F → IsSync (task.the_row J T O F H g e)
   task_sync s y a b c =
       both_sync-Task J T O F H g e
-      (load.the_send J s) (ticket.the_send J T O F H g e a b c) (λ h p q. search (sendable, crosses) depth 20)
-      (load.the_sync J y) (ticket.the_sync J T O F H g e a b c) (λ h p q. search (sendable, crosses) depth 20)
+      (load.the_send J s y) (ticket.the_send J T O F H g e a b c) (λ h p q. search (sendable, crosses) depth 20)
+      (load.the_sync J s y) (ticket.the_sync J T O F H g e a b c) (λ h p q. search (sendable, crosses) depth 20)

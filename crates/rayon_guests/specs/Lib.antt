@@ -1,3 +1,4 @@
+pub mod Casts
 pub mod Paths
 pub mod Visiting
 pub mod Visits

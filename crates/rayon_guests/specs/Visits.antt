@@ -1,5 +1,6 @@
 -- What an outside caller has for the time of one call, and what each act of the call does to it.
 use Rattle.std.specs.Prelude.{◌≡◌, ℕ, ◌≤◌, ◌++◌, [], ◌∷◌, List, length, Bool, true, false, if◌then◌else◌, is_some, Option, None, Some, Result}
+use Rattle.rayon_machine_places.specs.declared.place.Count.{Count}
 use Rattle.rayon_machine_places.specs.declared.place.Count.TheVariants.{OfPool, OfScope}
 use Rattle.rayon_machine_places.specs.declared.place.Party.{Party}
 use Rattle.rayon_machine_places.specs.declared.place.Party.TheVariants.{Caller}
@@ -20,7 +21,7 @@ use Rattle.atomic_table.specs.declared.shared.Seat.{Seat}
 use Rattle.rayon_atomics.specs.declared.views.Teller.{Teller}
 use Rattle.rayon_atomics.specs.declared.views.Watch.{Watch}
 use Rattle.rayon_atomics.specs.Counted.{fresh, watch}
-use Rattle.rayon_tasks.specs.Tasks.{TaskOf, NoJob, OneJob, TwoSides}
+use Rattle.rayon_tasks.specs.Tasks.{TaskOf, WorkOf, NoJob, OneJob, OnePiece, TwoSides}
 use Rattle.rayon_tasks.specs.Tickets.{IsScopeOf, ScopeOf, TicketOf, call_in, has_core, has_lock, unscoped}
 use Rattle.rayon_jobs.specs.Within.{Run}
 use Rattle.rayon_books.specs.Books.{Book}
@@ -30,7 +31,7 @@ use Rattle.rayon_books.specs.declared.slot.Slot.TheVariants.{Open}
 use Rattle.rayon_guests.specs.declared.load.Load.{Load}
 use Rattle.rayon_guests.specs.declared.load.Load.TheVariants.{Job, Sides, Detached, Scoped}
 use Rattle.rayon_performers.specs.Hands.{Gathers, HasResult, HasTicket, is_yes}
-use Rattle.rayon_performers.specs.Marks.{GivesShare, GivesUnit, IsScope, Marks, MissesShare, MissesUnit, SetBy, TakesShare, TakesUnit, Tally, scope_in}
+use Rattle.rayon_performers.specs.Marks.{GivesShare, GivesUnit, GivesUnits, IsScope, Marks, MissesShare, MissesUnit, MissesUnits, SetBy, TakesShare, TakesUnit, TakesUnits, Tally, scope_in}
 use Rattle.rayon_performers.specs.Seats.{Steps, Tells}
 
 -- what an outside caller has: which terminate count the pool has; the pool's shape; its pass of the injector; what its call
@@ -162,6 +163,9 @@ Sees (acts.Slot c n) x = IsTried x
 Sees (acts.SlotUndo c n) x = x ≡ Done
 Sees (acts.StoreBody c e) x = x ≡ Done
 Sees (acts.LockSet c) x = x ≡ Done
+Sees (acts.RaiseAll c) x = IsTried x
+Sees (acts.PushCast c) x = IsTried x
+Sees (acts.LowerAll c) x = IsAnswer x
 Sees _ x = Unit {0}
 
 -- what the seat knows by which news was told, if there is one
@@ -183,6 +187,17 @@ Raises _ b v w = MissesUnit true v w
 abbrev pub Lowers : Seen → Bool → Teller → Teller → Type 0
 Lowers Yes b v w = GivesUnit true true v w × (b ≡ true)
 Lowers _ b v w = GivesUnit true false v w × (b ≡ true)
+
+-- so many units are taken in one step of a pool's count, or were refused. No caller takes so many shares of another count
+abbrev pub RaisesAll : Count → ℕ → Seen → Teller → Teller → Type 0
+RaisesAll (OfPool p) n Done v w = TakesUnits n v w
+RaisesAll (OfPool p) n _ v w = MissesUnits v w
+RaisesAll _ n x v w = ⊥
+
+-- so many are given back in one step, which were the pool's last or not
+abbrev pub LowersAll : Count → ℕ → Seen → Teller → Teller → Type 0
+LowersAll (OfPool p) n x v w = GivesUnits n (is_yes x) v w
+LowersAll _ n x v w = ⊥
 
 module _ {G O F : Type 0} where
   -- a result of the first side is found only where two sides were sent
@@ -211,6 +226,13 @@ module _ {X : Type 0} where
   abbrev pub with_pushed : Visitor (TaskOf X) → TaskOf X → Visitor (TaskOf X)
   with_pushed v x = visitor v.injector (v.pushed ++ x ∷ []) v.taken
 
+  -- there is what a load brings to run: neither a piece of a broadcast nor nothing
+  abbrev pub HasLoad : WorkOf X → Type 0
+  HasLoad (OneJob j) = Unit {0}
+  HasLoad (TwoSides a b k) = Unit {0}
+  HasLoad OnePiece = ⊥
+  HasLoad NoJob = ⊥
+
   -- the task of a job of this name that was spawned by an outside caller into the scope that this ticket is of, and has this
   -- number in the scope's book
   abbrev pub scoped_task : X → TicketOf → ℕ → ℕ → TaskOf X
@@ -230,7 +252,7 @@ module _ {X G O F H : Type 0} where
 
   -- the load of a task
   abbrev pub IsLoadOf : TaskOf X → Load X G O F H → Type 0
-  IsLoadOf t l = elim t.work [ OneJob j ↦ l ≡ load_with j t.ticket | TwoSides a b k ↦ l ≡ Sides a b | NoJob ↦ ⊥ ]
+  IsLoadOf t l = elim t.work [ OneJob j ↦ l ≡ load_with j t.ticket | TwoSides a b k ↦ l ≡ Sides a b | OnePiece ↦ ⊥ | NoJob ↦ ⊥ ]
 
   -- the pass once the load was pushed, if there was one
   abbrev pub sent : ℕ → ℕ → Option (Load X G O F H) → Visitor (TaskOf X) → Visitor (TaskOf X)
@@ -344,6 +366,9 @@ module _ {X G O F H : Type 0} where
   Marked (acts.LockWait c) x s t = t.marks ≡ s.marks
   Marked (acts.Take c) x s t = t.marks ≡ s.marks
   Marked (acts.LockSet c) x s t = t.marks ≡ s.marks
+  Marked (acts.RaiseAll c) x s t = (t.marks.set ≡ s.marks.set) × RaisesAll c.count c.workers x s.marks.count t.marks.count
+  Marked (acts.PushCast c) x s t = t.marks ≡ s.marks
+  Marked (acts.LowerAll c) x s t = (t.marks.set ≡ s.marks.set) × LowersAll c.count c.workers x s.marks.count t.marks.count
   Marked _ x s t = ⊥
 
   -- to the seat by which it stepped on a scope's count

@@ -16,9 +16,8 @@ ghost use Rattle.rayon_performers.specs.Marks.{GivesUnit, SetBy, scope_in, tally
 ghost use Rattle.rayon_guests.specs.Paths.{CallerGoes};
 ghost use Rattle.rayon_performers.specs.Pools.{shape_of};
 ghost use Rattle.rayon_guests.specs.Visiting.{At, Fits, Keeps, KeepsCall, Kept, Stands, guest_needs, guest_on, guest_stays};
-ghost use Rattle.rayon_guests.specs.Visits.{Does, GrownFor, HasCall, HasLatch, IsAnswer, IsLoadOf, IsTried, LentFor, Needs, NoneSuch, Packed, Raises, Takes, TakesOf, TellsBy, first_of, hand, if_done, opening, sent, task_in, ticket_of, unit_after, with_pushed};
+ghost use Rattle.rayon_guests.specs.Visits.{Does, GrownFor, HasCall, HasLatch, HasLoad, IsAnswer, IsLoadOf, IsTried, LentFor, Needs, NoneSuch, Packed, Raises, Takes, TakesOf, TellsBy, first_of, hand, if_done, opening, sent, task_in, ticket_of, unit_after, with_pushed};
 ghost use Rattle.rayon_queues.specs.Deques.{visitor};
-ghost use Rattle.rayon_tasks.specs.Tasks.{HasJob};
 
 use crate::load::Load;
 use crate::paused::Paused;
@@ -576,7 +575,7 @@ pub(crate) fn share_of<J: JobKind>(ticket: &Option<Ticket<J>>) -> Option<Ticket<
 
 // The load of a task that was refused.
 fn load_of<J: JobKind>(task: Task<J>) -> Load<J>
-    requires { HasJob task.work }
+    requires { HasLoad task.work }
     ensures { IsLoadOf task result }
 {
     let (work, _injected, ticket) = task_parts(task);
@@ -591,6 +590,6 @@ fn load_of<J: JobKind>(task: Task<J>) -> Load<J>
             }
         }
         Work::Pair(Pair { first, second, .. }) => Load::Sides(first, second),
-        Work::Token => unreachable!(),
+        Work::Piece(_) | Work::Token => unreachable!(),
     }
 }

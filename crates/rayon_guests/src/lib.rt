@@ -1,6 +1,7 @@
 //! The callers outside a pool, who perform the machine's acts of their calls.
 #![tactic(auto)]
 
+mod cast;
 mod guest;
 mod load;
 mod paused;

@@ -10,7 +10,7 @@ use Rattle.rayon_machine_places.specs.declared.act.Seen.TheVariants.{Handed, Mis
 use Rattle.rayon_machine_places.specs.declared.shape.PoolShape.{PoolShape}
 use Rattle.rayon_machine_places.specs.Places.{begin_act, taken_number}
 use Rattle.rayon_drive.specs.Traces.{Adds}
-use Rattle.rayon_tasks.specs.Tasks.{HasJob, NoJob, OneJob, TaskOf, TwoSides, WorkOf, taken_by, taken_in}
+use Rattle.rayon_tasks.specs.Tasks.{HasJob, NoJob, OneJob, OnePiece, TaskOf, TwoSides, WorkOf, taken_by, taken_in}
 use Rattle.rayon_tasks.specs.Tickets.{TicketOf, kind_in}
 use Rattle.rayon_performers.specs.Begins.{begins_as}
 use Rattle.rayon_performers.specs.Hands.{Hands, HasTask, Does, kind_of}
@@ -26,6 +26,7 @@ module _ {X : Type 0} where
   number_by : (w : WorkOf X) (u : TicketOf) → taken_number (taken_by w u) ≡ u.number
   number_by (OneJob j) u = refl
   number_by (TwoSides a b t) u = refl
+  number_by OnePiece u = refl
   number_by NoJob u = refl
 
   -- a task has the number by which it is taken
@@ -35,6 +36,7 @@ module _ {X : Type 0} where
   job_by : (w : WorkOf X) (u : TicketOf) → IsPlain (taken_by w u) → HasJob w
   job_by (OneJob j) u p = tt
   job_by (TwoSides a b t) u p = tt
+  job_by OnePiece u p = tt
   job_by NoJob u p = absurd p
 
   -- what is no token brings a job

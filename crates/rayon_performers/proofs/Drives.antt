@@ -91,6 +91,8 @@ module _ {X G O F : Type 0} where
   after_counts (acts.Lower (OfScope c o) b) x s t k d = absurd k
   after_counts (acts.Lower (OfCast c o) b) x s t k d = absurd k
   after_counts (acts.Raise k n) x s t a d = absurd a
+  after_counts (acts.RaiseAll c) x s t a d = absurd a
+  after_counts (acts.LowerAll c) x s t a d = absurd a
   after_counts _ x s t k d = (le_refl s.holds, λ e. refl)
 
   does_counts : (a : Act) (x : Seen) (s t : Hands X G O F) → Needs a s → Does a x s t → Counts s t

@@ -14,7 +14,7 @@ use Rattle.rayon_machine_places.specs.declared.place.Taken.TheVariants.{Plain}
 use Rattle.rayon_machine_places.specs.declared.shape.PoolShape.{PoolShape}
 use Rattle.rayon_machine_places.specs.Places.{after_push, count_book, undo}
 use Rattle.rayon_drive.specs.Traces.{Adds}
-use Rattle.rayon_tasks.specs.Tasks.{WorkOf, OneJob, TwoSides, NoJob, HasJob, taken_by}
+use Rattle.rayon_tasks.specs.Tasks.{WorkOf, OneJob, OnePiece, TwoSides, NoJob, HasJob, taken_by}
 use Rattle.rayon_tasks.specs.Tickets.{TicketOf}
 use Rattle.rayon_performers.specs.Fifos.{feeding}
 use Rattle.rayon_performers.specs.Hands.{Hands, Does, Looks, Same, answer}
@@ -25,6 +25,7 @@ use Rattle.rayon_performers.proofs.Stretches.{So, so_far, by_act}
 pub taken_plain : {X : Type 0} (w : WorkOf X) (u : TicketOf) → HasJob w → taken_by w u ≡ Plain u.number
 taken_plain (OneJob j) u h = refl
 taken_plain (TwoSides a b t) u h = refl
+taken_plain OnePiece u h = refl
 taken_plain NoJob u h = absurd h
 
 module _ {X G O F : Type 0} (h : PoolShape) (i n k : ℕ) (s t u : Hands X G O F) where

@@ -1,4 +1,5 @@
 pub mod Begins
+pub mod Casts
 pub mod Drives
 pub mod Fifos
 pub mod Finds

@@ -65,7 +65,7 @@ module _ {X G O F : Type 0} where
       by : (z : Bool) → (t == o.job) ≡ z → At Anyhow (Worker 0 i) s (if z then Enter (at.SecondSide o) (at.BeginHere o.job) else Enter (at.JoinProbe o) (at.BeginTask (Plain t))) → At (EndsJoin s.holds o) (Worker 0 i) s (if z then Enter (at.SecondSide o) (at.BeginHere o.job) else Enter (at.JoinProbe o) (at.BeginTask (Plain t)))
       by true e b = absurd (n (ap (λ (z : ℕ). Task (Plain z)) (eqb-true t o.job e)))
       by false e b = (((inl refl, tt), refl), b.1, b.2)
-  popped_ends h i s o _ n a = (tt, ((a.1.0.0, λ u e. (tt, e), λ t u e. ((inr refl, tt), e)), a.1.1))
+  popped_ends h i s o _ n a = (tt, (((a.1.0.0.0, λ u e. (tt, e), λ t u e. ((inr refl, tt), e)), λ t u e. ((inl refl, tt), e)), a.1.1))
 
   -- what a join has found is in hand
   pub found_so : (q : Party) (s : Hands X G O F) (o : OpenCall) (r : Reclaimed) → At Anyhow q s (rejoins o r) → FoundSo o s r

@@ -26,6 +26,10 @@ module _ {X G O F : Type 0} where
   abbrev pub FoundInjected : TaskOf X → Hands X G O F → Hands X G O F → Type 0
   FoundInjected t s u = TakenBy s.inlet (Some t) u.inlet × SameDeque s.own u.own × Unmoved s.own u.own
 
-  -- the task came from one of the queues, and no other pass took a task
+  -- the task came from the worker's broadcast list: no pass took a task, and none of another's deque was made
+  abbrev pub FoundCast : TaskOf X → Hands X G O F → Hands X G O F → Type 0
+  FoundCast t s u = Kept s u × (u.thief ≡ s.thief)
+
+  -- the task came from one of the queues, and no other pass took a task; or from the broadcast list
   abbrev pub Found : TaskOf X → Hands X G O F → Hands X G O F → Type 0
-  Found t s u = FoundOwn t s u ⊎ (FoundOther t s u ⊎ FoundInjected t s u)
+  Found t s u = FoundOwn t s u ⊎ (FoundOther t s u ⊎ (FoundInjected t s u ⊎ FoundCast t s u))

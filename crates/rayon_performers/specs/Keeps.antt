@@ -140,14 +140,14 @@ module _ {X G O F : Type 0} (E : Move → Hand X G O F → Type 0) where
   at_on s t h p i (at.ProbeWorking k) _ a d = (tt, a.1)
   at_on s t h p i (at.PopWorking k) (Task n) a d = (a.1.0.2 n _ refl, a.1.1, (d.0, a.1.0.0))
   at_on s t h p i (at.PopWorking k) _ a d = a
-  at_on s t h p i (at.TakeCastWorking k) (Task n) a d = absurd d
+  at_on s t h p i (at.TakeCastWorking k) (Task n) a d = (a.1.0.2 n _ refl, a.1.1, (d, a.1.0.0))
   at_on s t h p i (at.TakeCastWorking k) _ a d = (a.1.1, a.1)
   at_on s t h p i (at.BecomeInactive k) _ a d = (a.1.0.0, (a.1.0, stepped AddsInactive Rests Searches s.chair t.chair begins a.0 d))
   at_on s t h p i (at.ProbeIdle k) Yes a d = (a.1.1, λ (c : Option Watch). left_next (hand (record s { guards = t.guards; probed = true; chair = c })) k.target a.0 a.1.0.1 (refl, seen_set s.guards t.guards (latch_of k.target) d))
   at_on s t h p i (at.ProbeIdle k) _ a d = (tt, a.1)
   at_on s t h p i (at.PopIdle k) (Task n) a d = (a.1.1, λ (c : Option Watch). (a.1.0.2 n _ refl, (d.0, a.1.0.0)))
   at_on s t h p i (at.PopIdle k) _ a d = a
-  at_on s t h p i (at.TakeCastIdle k) (Task n) a d = absurd d
+  at_on s t h p i (at.TakeCastIdle k) (Task n) a d = (a.1.1, λ (c : Option Watch). (a.1.0.2 n _ refl, (d, a.1.0.0)))
   at_on s t h p i (at.TakeCastIdle k) _ a d = either (Worker p i) (record s { trace = t.trace }) (h.workers == 1) (Stay (at.PopInjected k)) (Stay (at.PickVictim k)) a a
   at_on s t h p i (at.PickVictim k) (Start n) a d = a
   at_on s t h p i (at.PickVictim k) _ a d = a
@@ -184,12 +184,12 @@ module _ {X G O F : Type 0} (E : Move → Hand X G O F → Type 0) where
   at_on s t h p i (at.JoinProbe o) Yes a d = (a.0, ((refl, seen_set s.guards t.guards (OfCall o.number) d), a.1.0.0.1, a.1.1))
   at_on s t h p i (at.JoinProbe o) _ a d = (tt, a.1)
   at_on s t h p i (at.JoinPop o) (Task n) a d = joined_at (record s { own = t.own; task = t.task; trace = t.trace }) p i o n d.0 a.1.0 a.1.1
-  at_on s t h p i (at.JoinPop o) _ a d = (tt, (a.1.0.0, a.1.1))
-  at_on s t h p i (at.JoinTakeCast o) (Task n) a d = absurd d
-  at_on s t h p i (at.JoinTakeCast o) _ a d = (a.1.0.0, a.1)
+  at_on s t h p i (at.JoinPop o) _ a d = (tt, ((a.1.0.0, a.1.0.2), a.1.1))
+  at_on s t h p i (at.JoinTakeCast o) (Task n) a d = (a.1.0.1 n _ refl, a.1.1, (d, a.1.0.0.0))
+  at_on s t h p i (at.JoinTakeCast o) _ a d = (a.1.0.0.0, (a.1.0.0, a.1.1))
   at_on s t h p i at.YieldPop (Task n) a d = begins_at (record s { own = t.own; task = t.task; trace = t.trace }) p i n d.0 a.1.0 a.1.2
   at_on s t h p i at.YieldPop _ a d = a
-  at_on s t h p i at.YieldTakeCast (Task n) a d = absurd d
+  at_on s t h p i at.YieldTakeCast (Task n) a d = begins_at (record s { task = t.task; trace = t.trace }) p i n d a.1.0 a.1.2
   at_on s t h p i at.YieldTakeCast _ a d = either (Worker p i) (record s { trace = t.trace }) (h.workers == 1) (Stay at.YieldPopInjected) (Stay at.YieldPick) a a
   at_on s t h p i at.YieldPick (Start n) a d = a
   at_on s t h p i at.YieldPick _ a d = a
@@ -199,7 +199,7 @@ module _ {X G O F : Type 0} (E : Move → Hand X G O F → Type 0) where
   at_on s t h p i at.YieldPopInjected _ a d = (a.1.1 _ refl, a.1.2, tt)
   at_on s t h p i at.LocalPop (Task n) a d = begins_at (record s { own = t.own; task = t.task; trace = t.trace }) p i n d.0 a.1.0 a.1.2
   at_on s t h p i at.LocalPop _ a d = a
-  at_on s t h p i at.LocalTakeCast (Task n) a d = absurd d
+  at_on s t h p i at.LocalTakeCast (Task n) a d = begins_at (record s { task = t.task; trace = t.trace }) p i n d a.1.0 a.1.2
   at_on s t h p i at.LocalTakeCast _ a d = (a.1.1 _ refl, a.1.2, tt)
   at_on s t h p i (at.BeginTask (Plain n)) (Begun k) a d = (a.1.0.0 n k _ refl, a.1.1, a.0)
   at_on s t h p i (at.BeginTask (Plain n)) _ a d = absurd d

@@ -1,5 +1,6 @@
 pub mod Begins
 pub mod Calls
+pub mod Casts
 pub mod Fifos
 pub mod Finds
 pub mod Hands

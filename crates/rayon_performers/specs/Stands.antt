@@ -149,6 +149,10 @@ module _ {X G O F : Type 0} (E : Move → Hand X G O F → Type 0) where
   abbrev pub Joins : OpenCall → Hand X G O F → Type 0
   Joins o s = Waits (Answer o (Some Fine)) s × ((u : Hand X G O F) → u.holds ≡ s.holds → E (Enter (at.SecondSide o) (at.BeginHere o.job)) u) × ((t : Taken) (u : Hand X G O F) → u.holds ≡ s.holds → E (Enter (at.JoinProbe o) (at.BeginTask t)) u)
 
+  -- and where its own deque did not give that side, it may still find another task
+  abbrev pub Lacks : OpenCall → Hand X G O F → Type 0
+  Lacks o s = Waits (Answer o (Some Fine)) s × ((t : Taken) (u : Hand X G O F) → u.holds ≡ s.holds → E (Enter (at.JoinProbe o) (at.BeginTask t)) u)
+
   -- so ends a drive; where a token was spent so ends the one that only leads to the run of its job too
   abbrev pub Ends : Move → Hand X G O F → Type 0
   Ends (HandIn y k) u = E (HandIn y k) u × E (Stay y) u
@@ -193,7 +197,7 @@ module _ {X G O F : Type 0} (E : Move → Hand X G O F → Type 0) where
   Holds q s (at.LeaveSearch k) = (c : Option Watch) → Next (record (hand s) { chair = c }) (finish q (after_found k.target k.found))
   Holds q s (at.JoinProbe o) = Joins o (hand s) × Resting s.chair
   Holds q s (at.JoinPop o) = Joins o (hand s) × Resting s.chair
-  Holds q s (at.JoinTakeCast o) = Waits (Answer o (Some Fine)) (hand s) × Resting s.chair
+  Holds q s (at.JoinTakeCast o) = Lacks o (hand s) × Resting s.chair
   Holds q s at.YieldPop = Runs s.holds × Backs s.holds × Resting s.chair
   Holds q s at.YieldTakeCast = Runs s.holds × Backs s.holds × Resting s.chair
   Holds q s at.YieldPick = Runs s.holds × Backs s.holds × Resting s.chair

@@ -81,8 +81,11 @@ impl<J: JobKind> Perform for Bench<J> {
             | Act::StorePiece { .. }
             | Act::Idle => unreachable!(),
             Act::Pick => self.pick(),
-            Act::TakeCast => self.add(act, Seen::Missing),
-            Act::LookCast => self.add(act, Seen::Yes),
+            Act::TakeCast => self.take_cast(rt),
+            Act::LookCast => {
+                let seen = yes(self.registry.casts().is_empty(rt, self.index));
+                self.add(act, seen)
+            }
             Act::LookInj(_) => {
                 let seen = yes(self.registry.injector().is_empty(&mut self.inlet));
                 self.add(act, seen)
@@ -198,6 +201,18 @@ impl<J: JobKind> Bench<J> {
                 thread::yield_now();
                 self.add(Act::PopInj, Seen::Missing)
             }
+        }
+    }
+
+    // Takes the oldest piece of the worker's own broadcast list.
+    #[inline(always)]
+    pub(crate) fn take_cast<R: Wait>(&mut self, rt: &R) -> Seen
+        ensures does { Does acts.TakeCast result self.old self.new }
+        ensures adds { Adds acts.TakeCast result self.old.trace self.new.trace }
+    {
+        match self.registry.casts().take_oldest(rt, self.index) {
+            Some(piece) => self.took(Act::TakeCast, piece),
+            None => self.add(Act::TakeCast, Seen::Missing),
         }
     }
 

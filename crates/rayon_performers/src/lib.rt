@@ -3,6 +3,7 @@
 
 mod acts;
 mod bench;
+mod cast;
 mod counting;
 mod detached;
 mod fifo;

@@ -1,6 +1,6 @@
 //! What a worker looks for and pushes without running it. Each is a stretch of the table as far as a task's beginning,
 //! which is not performed, or to its end.
-ghost use Rattle.std.specs.Prelude.{◌≡◌, [], MatchOption, MatchResult, Some, None};
+ghost use Rattle.std.specs.Prelude.{◌≡◌, ◌⊎◌, [], MatchOption, MatchResult, Some, None};
 ghost use Rattle.rayon_machine_places.specs.Places.{undo};
 ghost use Rattle.rayon_machine_places.specs.declared.place.Move.TheVariants.{Back, Stay};
 ghost use Rattle.rayon_machine_places.specs.declared.place.Party.TheVariants.{Worker};
@@ -16,23 +16,24 @@ ghost use Rattle.rayon_tasks.specs.Tasks.{taken_in};
 use crate::bench::Bench;
 use rayon_drive::drive::Perform;
 use rayon_jobs::JobKind;
-use rayon_machine_places::act::{Act, Seen};
+use rayon_machine_places::act::Seen;
 use rayon_machine_places::place::{Move, Place, Plan, Then};
 use rayon_tasks::Task;
 use std::sync::Wait;
 
 impl<J: JobKind> Bench<J> {
-    /// Takes the newest task of the own deque, and does not run it: the look of a yield to the own tasks. Where the
-    /// deque is empty the broadcast list is looked at too, which holds no task yet. It refuses nothing: None says that
-    /// neither gave one, as where nothing is left of what the worker pushed. The path with a task leads as far as that
-    /// task's beginning, in the state with the task in hand, out of which it is given. A task may be a token.
+    /// Takes the newest task of the own deque, or the oldest where that is its order, and does not run it: the look of
+    /// a yield to the own tasks. Where the deque gives none, the oldest piece of the worker's broadcast list is taken,
+    /// if there is one. It refuses nothing: None says that neither gave one. Where nothing is left of what the worker
+    /// pushed, what is given is a piece. The path with a task leads as far as that task's beginning, in the state with
+    /// the task in hand, out of which it is given. A task may be a token.
     #[inline(always)]
     pub fn take_local<R: Wait>(&mut self, rt: &R) -> Option<Task<J>>
         ensures path { MatchOption result
             (WorkerGoes (Stay at.LocalPop) self.old self.new Back)
             (λ t. WorkerGoes (Stay at.LocalPop) self.old (record self.new { task = Some t }) (Stay (at.BeginTask (taken_in t)))) }
-        ensures popped { MatchOption result (Unmoved self.old.own self.new.own) (λ t. Popped self.old.own t self.new.own) }
-        ensures empty { self.old.own.left ≡ [] → result ≡ None }
+        ensures popped { MatchOption result (Unmoved self.old.own self.new.own) (λ t. Popped self.old.own t self.new.own ⊎ Unmoved self.old.own self.new.own) }
+        ensures empty { self.old.own.left ≡ [] → Unmoved self.old.own self.new.own }
         ensures same { SameDeque self.old.own self.new.own }
         ensures left { MatchOption result
             (self.new ≡ record self.old { own = self.new.own; trace = self.new.trace })
@@ -41,15 +42,17 @@ impl<J: JobKind> Bench<J> {
         if let Seen::Task(_) = self.pop_own() {
             return self.take_task();
         }
-        self.perform(rt, Act::TakeCast);
+        if let Seen::Task(_) = self.take_cast(rt) {
+            return self.take_task();
+        }
         None
     }
 
-    /// Looks for a task in all places of a yield, and does not run it: the own deque, the broadcast list, the other
-    /// workers' deques from a chosen one on, each once, and last the injector. It refuses nothing: None says that each
-    /// look missed. Before that answer other threads run first, as after each search that has found nothing; that is no
-    /// act, and changes nothing of the answer. The path with a task leads as far as that task's beginning, in the state
-    /// with the task in hand, out of which it is given. A task may be a token.
+    /// Looks for a task in all places of a yield, and does not run it: the own deque, the worker's broadcast list,
+    /// which gives pieces, the other workers' deques from a chosen one on, each once, and last the injector. It refuses
+    /// nothing: None says that each look missed. Before that answer other threads run first, as after each search that
+    /// has found nothing; that is no act, and changes nothing of the answer. The path with a task leads as far as that
+    /// task's beginning, in the state with the task in hand, out of which it is given. A task may be a token.
     pub fn find_work<R: Wait>(&mut self, rt: &R) -> Option<Task<J>>
         ensures path { MatchOption result
             (WorkerGoes (Stay at.YieldPop) self.old self.new Back)

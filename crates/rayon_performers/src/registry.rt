@@ -1,7 +1,7 @@
 //! What the threads of a pool share.
-ghost use Rattle.std.specs.Prelude.{◌≡◌, ◌⊎◌, ◌<◌, ◌≤◌, ◌++◌, [], ◌∷◌, All, false, true, map, max, length, is_some, IfOk, IfErr, MatchResult};
+ghost use Rattle.std.specs.Prelude.{◌≡◌, ◌⊎◌, ◌<◌, ◌≤◌, ◌+◌, ◌^◌, ◌++◌, [], ◌∷◌, All, false, true, map, max, length, is_some, IfOk, IfErr, IfSome, MatchResult};
 ghost use Rattle.rayon_atomics.specs.Tallies.{teller};
-ghost use Rattle.rayon_performers.specs.Marks.{GivesUnit, MissesUnit, TakesUnit};
+ghost use Rattle.rayon_performers.specs.Marks.{GivesUnit, GivesUnits, MissesUnit, MissesUnits, TakesUnit, TakesUnits};
 ghost use Rattle.rayon_performers.specs.Pools.{shape_of};
 ghost use Rattle.rayon_queues.specs.Deques.{IsNew};
 ghost use Rattle.rayon_sleep.specs.Berths.{Rests};
@@ -13,13 +13,14 @@ use rayon_atomics::count::CountSeat;
 use rayon_atomics::latch::CoreLatch;
 use rayon_atomics::own_latch::OwnLatch;
 use rayon_atomics::terminate::TerminateCount;
+use rayon_broadcasts::BroadcastQueue;
 use rayon_locks::HeldLock;
 use rayon_machine_places::shape::{Order, PoolShape};
 use rayon_queues::{Injector, JobFifos, Stealers, WorkerDeque};
 use rayon_sleep::counters::Chair;
 use rayon_sleep::latch::Owner;
 use rayon_sleep::sleep::Sleep;
-use rayon_tasks::Names;
+use rayon_tasks::{Names, row_of_names};
 use rayon_words::Refusal;
 use rayon_words::latch::LatchRef;
 use std::alloc::{AllocError, Global};
@@ -46,6 +47,8 @@ pub struct Registry<T> {
     // by worker and scope, the jobs that it spawned to be run in the order of their spawns, for each of which a token
     // is queued
     fifos: Vec<CachePadded<HeldLock<JobFifos<T>>>>,
+    // by worker, the pieces of broadcasts that it is to run
+    casts: BroadcastQueue<T>,
 }
 
 impl<T> Model for Registry<T> {
@@ -87,6 +90,7 @@ impl<T: Drop> Registry<T> {
             return Err(Refusal::NoRoom);
         };
         let fifos = new_fifos(alloc, num_threads)?;
+        let casts = BroadcastQueue::new(alloc, num_threads)?;
         let mut deques = Vec::new(alloc);
         let mut stealers = Stealers::new(alloc);
         let mut terminate = Vec::new(alloc);
@@ -117,6 +121,7 @@ impl<T: Drop> Registry<T> {
             terminate,
             caller_names: Mutex::new(Names::new(num_threads, num_threads + 1)),
             fifos,
+            casts,
         };
         Ok((registry, deques, PoolHold::new(seat)))
     }
@@ -207,6 +212,11 @@ impl<T: Drop> Registry<T> {
         Some(lists)
     }
 
+    /// The lists of the pieces of broadcasts, one for each worker.
+    pub fn casts(&self) -> &BroadcastQueue<T> {
+        &self.casts
+    }
+
     /// A seat of the terminate count, for one party more.
     pub fn count_seat(&self) -> CountSeat
         ensures { result.table_id ≡ self.now.count }
@@ -235,6 +245,40 @@ impl<T: Drop> Registry<T> {
         ensures lowered { GivesUnit true result (teller seat.old) (teller seat.new) }
     {
         self.terminate_count.decrement(rt, seat)
+    }
+
+    /// Takes so many units of the terminate count in one step. Refused `Ended`, `Full`, and then none is taken.
+    pub fn raise_terminate_count<R: Wait>(
+        &self,
+        rt: &R,
+        seat: &mut CountSeat,
+        units: u64,
+    ) -> Result<(), Refusal>
+        requires { seat.old.table_id ≡ self.now.count }
+        ensures table { seat.new.table_id ≡ seat.old.table_id }
+        ensures raised { MatchResult result (λ _. TakesUnits units (teller seat.old) (teller seat.new)) (λ _. MissesUnits (teller seat.old) (teller seat.new)) }
+        ensures refused { IfErr result (λ r. (r ≡ Refusal.Ended) ⊎ (r ≡ Refusal.Full)) }
+    {
+        self.terminate_count.increment_by(rt, seat, units)
+    }
+
+    /// Gives so many units of the terminate count back in one step, and none where it is less. True exactly if they
+    /// were the last.
+    pub fn lower_terminate_count<R: Wait>(&self, rt: &R, seat: &mut CountSeat, units: u64) -> bool
+        requires { seat.old.table_id ≡ self.now.count }
+        ensures table { seat.new.table_id ≡ seat.old.table_id }
+        ensures lowered { GivesUnits units result (teller seat.old) (teller seat.new) }
+    {
+        self.terminate_count.decrement_by(rt, seat, units)
+    }
+
+    /// The first of a row of names for the pieces of an outside caller's broadcast, one for each worker. None where
+    /// there is no such row any more.
+    pub fn caller_row<R: Wait>(&self, rt: &R) -> Option<u64>
+        ensures { IfSome result (λ first. first + self.now.workers < 2 ^ 64) }
+    {
+        let name = self.caller_name(rt)?;
+        row_of_names(self.num_threads, name)
     }
 
     /// A name for the job of an outside caller. None where all are used up.

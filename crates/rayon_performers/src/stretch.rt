@@ -418,6 +418,6 @@ pub(crate) fn only_job<J: JobKind>(task: Task<J>) -> J
     let (work, _, _) = task_parts(task);
     match work {
         Work::Job(job) => job,
-        Work::Pair(_) | Work::Token => unreachable!(),
+        Work::Pair(_) | Work::Piece(_) | Work::Token => unreachable!(),
     }
 }

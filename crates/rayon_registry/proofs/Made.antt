@@ -1,5 +1,5 @@
 -- The acts of a performer's path are those of a path, whatever they did.
-use Rattle.std.proofs.Common.{◌≡◌, ◌⊎◌, inl, inr, Bool, true, false, true≢false, ℕ, [], ◌∷◌, Option, None, Some, Result, Ok, Err, MatchOption, MatchResult, IfErr, refl, sym, subst, ap, ◌∙◌}
+use Rattle.std.proofs.Common.{◌≡◌, ◌⊎◌, inl, inr, Bool, true, false, true≢false, ℕ, [], ◌∷◌, Option, None, Some, Result, Ok, Err, MatchOption, MatchResult, IfErr, IfOk, refl, sym, subst, ap, ◌∙◌}
 use Rattle.rayon_machine_places.specs.declared.place.Count.TheVariants.{OfPool}
 use Rattle.std.specs.Result.{IsErr}
 use Rattle.rayon_words.specs.declared.refusal.CallError.{CallError}
@@ -32,6 +32,7 @@ use Rattle.rayon_tasks.specs.Tasks.{TaskOf, taken_in}
 use Rattle.rayon_tasks.specs.Tickets.{ScopeOf, TicketOf, call_in, kind_alone, kind_in}
 use Rattle.rayon_performers.specs.Begins.{begins_as}
 use Rattle.rayon_performers.specs.Calls.{own_call}
+use Rattle.rayon_performers.specs.Casts.{Cast, Casts, CastsNone, casting}
 use Rattle.rayon_performers.specs.Fifos.{Fed, FeedsList, FeedsNone, feeding}
 use Rattle.rayon_jobs.specs.Endings.{ending_of}
 use Rattle.rayon_jobs.specs.Within.{Run}
@@ -43,7 +44,7 @@ use Rattle.rayon_performers.specs.Spawns.{CanClose, ClosesRun, Spawned, Spawns, 
 use Rattle.rayon_performers.specs.Stands.{Stands}
 use Rattle.rayon_performers.specs.Waits.{Waited, units_after}
 use Rattle.rayon_performers.proofs.Stretches.{So, traced}
-use Rattle.rayon_registry.specs.Acts.{CallMade, Closes, Follows, HandedBack, HasRun, Lowered, ScopeOpened, Unlisted, Worked, resumed, wait_end}
+use Rattle.rayon_registry.specs.Acts.{CallMade, CastBack, Closes, Follows, HandedBack, HasRun, Lowered, ScopeOpened, Unlisted, Worked, resumed, wait_end}
 use Rattle.rayon_registry.specs.Worker.{AfterWait, Worker as WorkerValue}
 
 module _ {X G O F : Type 0} (h : PoolShape) (i : ℕ) (m : Move) (s t : Hands X G O F) where
@@ -75,6 +76,21 @@ module _ {X G O F : Type 0} (n : ℕ) (s t : Hands X G O F) where
   pub unspawned : SpawnsNone n s t → HandedBack s.shape (Worker 0 s.index) (Detach 0) s.trace t.trace
   unspawned (inl e) = inl (ap (λ (z : Hands X G O F). z.trace) e)
   unspawned (inr d) = inr (n, traced s.shape s.index (Stay (at.RaiseCount (Detach 0 n))) (with_units 0 s) (with_units 0 t) (HandBack (Detach 0 n)) d)
+
+  -- a broadcast, under names in a row of which this is the first
+  pub cast : (w : ℕ) → Casts (casting n w) s t → Cast s.shape (Worker 0 s.index) (casting n w) s.trace t.trace
+  cast w d = traced s.shape s.index (Stay (at.RaiseForAll (casting n w))) s t Back d
+
+  -- a refused one
+  pub uncast : CastsNone (casting n s.shape.workers) s t → CastBack s.shape (Worker 0 s.index) s.trace t.trace
+  uncast (inl e) = inl (ap (λ (z : Hands X G O F). z.trace) e)
+  uncast (inr (inl d)) = inr (n, inl (traced s.shape s.index (Stay (at.RaiseForAll (casting n s.shape.workers))) s t (HandAllBack (casting n s.shape.workers)) d))
+  uncast (inr (inr d)) = inr (n, inr (traced s.shape s.index (Stay (at.RaiseForAll (casting n s.shape.workers))) s t Back d))
+
+  pub cast_so : {A B : Type 0} (r : Result A B) → MatchResult r (λ _. Casts (casting n s.shape.workers) s t) (λ _. CastsNone (casting n s.shape.workers) s t)
+      → IfOk r (λ _. (k : ℕ) × Cast s.shape (Worker 0 s.index) (casting k s.shape.workers) s.trace t.trace) × IfErr r (λ _. CastBack s.shape (Worker 0 s.index) s.trace t.trace)
+  cast_so (Ok x) d = ((n, cast s.shape.workers d), tt)
+  cast_so (Err e) d = (tt, uncast d)
 
   -- the same of a spawn in order, with a token of this name
   pub fed : (k : ℕ) → FeedsList n k s t → Fed s.shape (Worker 0 s.index) n k s.trace t.trace

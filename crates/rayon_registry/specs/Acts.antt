@@ -13,10 +13,10 @@ use Rattle.rayon_machine_places.specs.declared.place.Share.TheVariants.{OfJob}
 use Rattle.rayon_machine_places.specs.declared.place.Then.TheVariants.{Answers, Ran as RanSo}
 use Rattle.rayon_machine_places.specs.declared.place.Party.{Party}
 use Rattle.rayon_machine_places.specs.declared.place.Move.{Move}
-use Rattle.rayon_machine_places.specs.declared.place.Move.TheVariants.{Stay, Enter, StartRun, Back, HandBack, HandIn, Discard}
+use Rattle.rayon_machine_places.specs.declared.place.Move.TheVariants.{Stay, Enter, StartRun, Back, HandBack, HandAllBack, HandIn, Discard}
 use Rattle.rayon_machine_places.specs.declared.shape.PoolShape.{PoolShape}
 use Rattle.rayon_machine_places.specs.declared.place.Place.{Place}
-use Rattle.rayon_machine_places.specs.declared.place.Place.TheVariants.{AddToFifo, AtOnce, BeginHere, FirstSide, LowerCount, RaiseCount, Run, ScopeBody, Stopped}
+use Rattle.rayon_machine_places.specs.declared.place.Place.TheVariants.{AddToFifo, AtOnce, BeginHere, FirstSide, LowerCount, RaiseCount, RaiseForAll, Run, ScopeBody, Stopped}
 use Rattle.rayon_machine_places.specs.declared.place.Target.{Target}
 use Rattle.rayon_machine_places.specs.declared.place.Target.TheVariants.{Termination, Answer}
 use Rattle.rayon_machine_places.specs.Places.{goes_on, undo}
@@ -24,6 +24,7 @@ use Rattle.rayon_drive.specs.declared.trace.Log.{Log}
 use Rattle.rayon_drive.specs.Traces.{AddsRun}
 use Rattle.rayon_drive.specs.Paths.{Traced}
 use Rattle.rayon_performers.specs.Calls.{own_call, own_join}
+use Rattle.rayon_performers.specs.Casts.{casting}
 use Rattle.rayon_performers.specs.Fifos.{feeding}
 use Rattle.rayon_performers.specs.Spawns.{closing}
 
@@ -136,6 +137,11 @@ Installed h q e v w = (n : ℕ) × (x : Log) × (y : Log) × (z : Log) × Traced
 -- the acts of a refused call: none, or those of its plan from its Raise to where it hands its jobs back
 abbrev pub HandedBack : PoolShape → Party → (ℕ → Plan) → Log → Log → Type 0
 HandedBack h q plan v w = (w ≡ v) ⊎ ((n : ℕ) × Traced h q (Stay (RaiseCount (plan n))) v w (HandBack (plan n)))
+
+-- a detached broadcast was handed back: before its first act, or from there to where its pieces are; where their units were
+-- given back and were the pool's last, the workers' terminate latches are set
+abbrev pub CastBack : PoolShape → Party → Log → Log → Type 0
+CastBack h q v w = (w ≡ v) ⊎ ((n : ℕ) × (Traced h q (Stay (RaiseForAll (casting n h.workers))) v w (HandAllBack (casting n h.workers)) ⊎ Traced h q (Stay (RaiseForAll (casting n h.workers))) v w Back))
 
 -- the acts of a task of this name that could not be added to the own FIFO list: none, or those of the adding as far as it was
 -- taken back

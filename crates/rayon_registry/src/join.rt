@@ -348,11 +348,9 @@ impl<J: JobKind> WorkerThread<J> {
     }
 }
 
-/// What a join with a closure is made of. It is not open to users, who call `ForkJoin`.
-pub trait Sides<J: JobKind> {
-    /// A second side that was pushed.
-    type Fork;
-
+/// What the calls that lend a worker value to a closure ask of it. It is not open to users, who call `ForkJoin` and
+/// `ScopeCalls`.
+pub trait Lends<J: JobKind> {
     /// The type of scopes.
     type Scope: Drop;
 
@@ -367,6 +365,24 @@ pub trait Sides<J: JobKind> {
 
     /// Whether the second is the first, but for the acts that the worker has made since.
     ghost kept: { Self → Self → Type 0 };
+}
+
+impl<J: JobKind> Lends<J> for WorkerThread<J> {
+    type Scope = Scope<J>;
+
+    ghost height = { λ w. w.levels };
+
+    ghost id = { λ w. (w.id.pool.number, w.id.index, w.shape, w.seat) };
+
+    ghost units = { λ w. w.units };
+
+    ghost kept = { λ v w. Kept v w };
+}
+
+/// What a join with a closure is made of. It is not open to users, who call `ForkJoin`.
+pub trait Sides<J: JobKind>: Lends<J> {
+    /// A second side that was pushed.
+    type Fork;
 
     /// Whether the acts that the second has more are those of a refused join.
     ghost handed_back: { Self → Self → Type 0 };
@@ -379,9 +395,6 @@ pub trait Sides<J: JobKind> {
 
     /// Whether the run of the first side, which ended so, and the acts after it lead to the end of the join.
     ghost met: { Ending → Self.Fork → Self → Type 0 };
-
-    /// Both together are the acts of the join.
-    ghost joins: { (e : Ending) (v w : Self) (f : Self.Fork) → id w ≡ id v → offered v f → met e f w → joined e v w };
 
     /// The tag of the job that was handed in as the second side.
     ghost fork_tag: { Self.Fork → J.Tag };
@@ -396,12 +409,12 @@ pub trait Sides<J: JobKind> {
         alloc: Global,
         b: J,
     ) -> Result<Self::Fork, (Refusal, J)>
-        ensures forked { IfOk result (λ f. (fork_tag f ≡ J.tag_of b) × (fork_levels f ≡ height self.old) × (suc (height self.new) ≡ height self.old)) }
-        ensures back { IfErr result (λ e. (e.1 ≡ b) × kept self.old self.new × (height self.new ≡ height self.old) × (units self.new ≡ units self.old)) }
-        ensures deep { height self.old ≡ 0 → result ≡ Err (Refusal.TooDeep, b) }
-        ensures shallow { IfErr result (λ e. e.0 ≡ Refusal.TooDeep → height self.old ≡ 0) }
-        ensures id { id self.new ≡ id self.old }
-        ensures units { IfOk result (λ f. units self.new ≡ units self.old + 1) }
+        ensures forked { IfOk result (λ f. (fork_tag f ≡ J.tag_of b) × (fork_levels f ≡ Self.height self.old) × (suc (Self.height self.new) ≡ Self.height self.old)) }
+        ensures back { IfErr result (λ e. (e.1 ≡ b) × Self.kept self.old self.new × (Self.height self.new ≡ Self.height self.old) × (Self.units self.new ≡ Self.units self.old)) }
+        ensures deep { Self.height self.old ≡ 0 → result ≡ Err (Refusal.TooDeep, b) }
+        ensures shallow { IfErr result (λ e. e.0 ≡ Refusal.TooDeep → Self.height self.old ≡ 0) }
+        ensures id { Self.id self.new ≡ Self.id self.old }
+        ensures units { IfOk result (λ f. Self.units self.new ≡ Self.units self.old + 1) }
         ensures path { MatchResult result (λ f. offered self.old f) (λ _. handed_back self.old self.new) };
 
     /// Takes the worker value back, waits for the second side, and claims its result.
@@ -415,24 +428,17 @@ pub trait Sides<J: JobKind> {
         requires some { 0 < fork_levels fork }
         requires levels { fork_levels fork ≤ R.levels rt.now }
         ensures ok { IfOk result (λ r. J.answers (fork_tag fork) r) }
-        ensures height { height self.new ≡ fork_levels fork }
-        ensures id { id self.new ≡ id self.old }
-        ensures units { units self.new ≡ units self.old - 1 }
+        ensures height { Self.height self.new ≡ fork_levels fork }
+        ensures id { Self.id self.new ≡ Self.id self.old }
+        ensures units { Self.units self.new ≡ Self.units self.old - 1 }
         ensures path { met (ended_so first_faulted) fork self.new };
+
+    /// Both together are the acts of the join.
+    ghost joins: { (e : Ending) (v w : Self) (f : Self.Fork) → Self.id w ≡ Self.id v → offered v f → met e f w → joined e v w };
 }
 
 impl<J: JobKind> Sides<J> for WorkerThread<J> {
     type Fork = ClosureFork<J>;
-
-    type Scope = Scope<J>;
-
-    ghost height = { λ w. w.levels };
-
-    ghost id = { λ w. (w.id.pool.number, w.id.index, w.shape, w.seat) };
-
-    ghost units = { λ w. w.units };
-
-    ghost kept = { λ v w. Kept v w };
 
     ghost handed_back = { λ v w. HandedBack v.shape (Worker 0 v.seat) own_join v.acts w.acts };
 

@@ -2,6 +2,7 @@
 #![tactic(auto)]
 
 mod answers;
+mod broadcast;
 mod context;
 mod faults;
 mod ids;
@@ -9,6 +10,7 @@ mod in_place;
 mod job;
 mod join;
 mod level;
+mod parts;
 mod pool_parts;
 mod pool_ref;
 mod scope;
@@ -22,6 +24,7 @@ pub use ids::{IdSource, Ids, PoolId, WorkerId};
 pub use in_place::{InPlace, InPlaceCalls, OpensInPlace};
 pub use job::{Job, Waits};
 pub use join::{ForkJoin, PairRun};
+pub use parts::Parts;
 pub use pool_parts::{end_pool, faults_of, new_pool, shared_of};
 pub use pool_ref::PoolRef;
 pub use scope::{Opened, Opens, Scope, ScopeCalls, ScopeFifo};

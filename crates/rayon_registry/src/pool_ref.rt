@@ -144,6 +144,27 @@ impl<J: JobKind> PoolRef<J> {
         self.spawn(rt, alloc, job)
     }
 
+    /// Broadcasts a detached job to the pool, for a caller that is no worker: each worker of the pool runs a piece of
+    /// it (`Job::run_on`), and this call waits for nothing. All pieces are queued at once, and each worker is called,
+    /// so that none of them sleeps. Each piece keeps the pool from ending until its run is over. Nobody is answered an
+    /// output; a fault goes where that of a job goes which was spawned by `spawn`. The last piece lets the job go.
+    /// Refused `Full`, `NoRoom`, `Ended`, with the very job back and no piece queued.
+    pub fn spawn_broadcast<R: Wait>(
+        &self,
+        rt: &R,
+        alloc: Global,
+        job: J,
+    ) -> Result<(), (Refusal, J)>
+        ensures back { IfErr result (λ e. e.1 ≡ job) }
+        ensures refused { IfErr result (λ e. (e.0 ≡ Refusal.Ended) ⊎ ((e.0 ≡ Refusal.Full) ⊎ (e.0 ≡ Refusal.NoRoom))) }
+    {
+        let Some(first) = self.pool.shared.caller_row(rt) else {
+            return Err((Refusal::Full, job));
+        };
+        let mut guest = Guest::new(&*self.pool.shared);
+        guest.spawn_broadcast(rt, alloc, first, job)
+    }
+
     /// How many tokens of FIFO lists found their list empty, at most 2^64 - 1. In each run of the machine it is 0;
     /// where rayon-core finds such a token it ends the process.
     pub fn strays<R: Wait>(&self, rt: &R) -> u64 {

@@ -21,7 +21,7 @@ ghost use Rattle.std.specs.Prelude.{◌≡◌, ◌⊎◌, ℕ, ◌≤◌, ◌<�
 use crate::answers::scope_answer;
 use crate::ids::PoolId;
 use crate::job::Waits;
-use crate::join::Sides;
+use crate::join::Lends;
 use crate::worker_thread::{Lent, WorkerThread};
 use rayon_books::{Ended, NoOutputs, Outcome, Receipt, are_met};
 use rayon_jobs::{Done, JobKind};
@@ -331,7 +331,7 @@ impl<J: JobKind> WorkerThread<J> {
 }
 
 /// What a scope on a worker value is made of. It is not open to users, who call `ScopeCalls`.
-pub trait Opens<J: JobKind>: Sides<J> {
+pub trait Opens<J: JobKind>: Lends<J> {
     /// A scope that was opened.
     type Opened;
 

@@ -33,6 +33,7 @@ use crate::faults::SharedFaults;
 use crate::ids::WorkerId;
 use crate::job::Waits;
 use crate::join::PairRun;
+use crate::parts::Parts;
 use crate::pool_ref::{PoolRef, PoolShare};
 use rayon_jobs::{Done, JobKind};
 use rayon_machine_places::place::{Ending, JobKind as Kind, Move, Place, Target, Then};
@@ -318,13 +319,14 @@ impl<J: JobKind> WorkerThread<J> {
         Ok(())
     }
 
-    /// Takes the newest task of the worker's own deque, or the oldest where that is its order. None where nothing lies
-    /// there. It may be a token.
+    /// Takes the newest task of the worker's own deque, or the oldest where that is its order. Where nothing lies there
+    /// the oldest piece of a broadcast that the worker is to run, if there is one. None where there is neither. It may
+    /// be a token.
     #[tactic(auto, unfolding(crate::specs::Pushes::pushed_by, crate::specs::Pushes::left_to, crate::specs::Pushes::takes_oldest, crate::specs::Pushes::units_of, crate::specs::Pushes::count_of, crate::specs::Pushes::shape_at, crate::specs::Pushes::seat_of, crate::specs::Pushes::acts_of, crate::specs::Pushes::saw_set))]
     pub fn take_local_job<R: Wait>(&mut self, rt: &R) -> Option<Task<J>>
-        ensures some { IfSome result (λ t. Leaves self.old.oldest_first self.old.left t self.new.left) }
+        ensures some { IfSome result (λ t. Leaves self.old.oldest_first self.old.left t self.new.left ⊎ (self.new.left ≡ self.old.left)) }
         ensures none { IfNone result (self.new.left ≡ self.old.left) }
-        ensures empty { self.old.left ≡ [] → result ≡ None }
+        ensures empty { self.old.left ≡ [] → self.new.left ≡ [] }
         ensures kept { self.new ≡ record self.old { left = self.new.left; acts = self.new.acts } }
         ensures path { MatchOption result
             (Traced self.old.shape (Worker 0 self.old.seat) (Stay at.LocalPop) self.old.acts self.new.acts Back)
@@ -333,8 +335,9 @@ impl<J: JobKind> WorkerThread<J> {
         self.bench.take_local(rt)
     }
 
-    /// Looks for a task: in the worker's own deque, in the other workers', from a chosen one on, each once, and last
-    /// among the injected ones. None where each look missed. It may be a token.
+    /// Looks for a task: in the worker's own deque, among the pieces of broadcasts that it is to run, in the other
+    /// workers' deques, from a chosen one on, each once, and last among the injected ones. None where each look missed.
+    /// It may be a token. A piece answers for the worker that runs it.
     #[tactic(auto, unfolding(crate::specs::Pushes::pushed_by, crate::specs::Pushes::left_to, crate::specs::Pushes::takes_oldest, crate::specs::Pushes::units_of, crate::specs::Pushes::count_of, crate::specs::Pushes::shape_at, crate::specs::Pushes::seat_of, crate::specs::Pushes::acts_of, crate::specs::Pushes::saw_set))]
     pub fn find_work<R: Wait>(&mut self, rt: &R) -> Option<Task<J>>
         ensures some { IfSome result (λ t. Leaves self.old.oldest_first self.old.left t self.new.left ⊎ (self.new.left ≡ self.old.left)) }
@@ -505,6 +508,7 @@ impl<J: JobKind> WorkerThread<J> {
         match work {
             Work::Job(job) => (self.run_told(rt, alloc, job, &mut context), None),
             Work::Pair(pair) => self.run_sides(rt, alloc, pair),
+            Work::Piece(job) => (self.run_piece(rt, alloc, job, context.take_scope()), None),
             Work::Token => unreachable!(),
         }
     }
@@ -532,7 +536,7 @@ impl<J: JobKind> WorkerThread<J> {
         } = pair;
         let before = self.bench.set_aside();
         let PairRun { first, second } = if self.levels > 1 {
-            rt.run_pair(alloc, self, first, second)
+            rt.run_parts(alloc, self, &mut Parts::sides(first, second))
         } else {
             self.one_after_the_other(rt, alloc, first, second)
         };

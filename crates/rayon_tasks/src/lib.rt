@@ -11,8 +11,10 @@ mod ticket;
 mod work;
 
 pub use call::Call;
-pub use names::{Names, law_names};
+pub use names::{Names, law_names, law_rows, row_of_names};
 pub use scope::ScopeCore;
-pub use task::{Task, single_parts, task_of_job, task_of_pair, task_parts, token_of};
+pub use task::{
+    Task, pieces_of, single_parts, task_of_job, task_of_pair, task_of_piece, task_parts, token_of,
+};
 pub use ticket::Ticket;
 pub use work::{Pair, Work};

@@ -1,29 +1,34 @@
 //! What lies in the queues of a pool.
-ghost use Rattle.rayon_tasks.specs.Tasks.{HasJob, IsSingle, NoJob, OneJob, TwoSides, sides_with, taken_in};
+ghost use Rattle.rayon_tasks.specs.Pieces.{pieces_for};
+ghost use Rattle.rayon_tasks.specs.Tasks.{HasJob, IsSingle, NoJob, OneJob, OnePiece, TwoSides, sides_with, taken_in};
 ghost use Rattle.rayon_tasks.specs.Tickets.{kind_in, scope_call};
 ghost use Rattle.rayon_tasks.specs.Works.{work_of};
-ghost use Rattle.std.specs.Prelude.{◌≡◌, ◌↔◌, ⊤, IsTrue, None, Some, true, false, IfOk, IfErr};
+ghost use Rattle.std.specs.Prelude.{◌≡◌, ◌↔◌, ◌<◌, ◌+◌, ◌^◌, ⊤, IsTrue, None, Some, true, false, IfOk, IfErr};
 
 use crate::ticket::Ticket;
 use crate::work::{Pair, Work};
+use rayon_broadcasts::SharedJob;
 use rayon_jobs::JobKind;
 use rayon_machine_places::place::{JobKind as Kind, Party, Taken};
+use rayon_words::Refusal;
 use std::alloc::Global;
 use std::marker::Model;
 
-// What a task brings: its job and where its call was made, or no job.
+// What a task brings: its job and where its call was made, the job of which it is a piece, or no job.
 #[derive(Drop)]
 pub(crate) enum Load<J> {
     // of a call by a worker of the pool
     Inside(J),
     // of a call from outside the pool
     Injected(J),
+    // of a broadcast: all its pieces share the job
+    Piece(SharedJob<J>),
     // the first job of a worker's FIFO list is to run
     Token,
 }
 
 /// What a call queued: a second side, a job that was sent to the pool, two sides that were sent to the pool, a detached
-/// job, a scope's job, or a token, which stands for the first job of a worker's FIFO list.
+/// job, a scope's job, a piece of a broadcast, or a token, which stands for the first job of a worker's FIFO list.
 ///
 /// Users of the pool see this type alone of the crate, and to them it is opaque. Tasks are made and taken apart by
 /// functions beside the type, not by its methods, so who has a task and not this crate can neither take its ticket out
@@ -82,18 +87,18 @@ impl<J: JobKind> Task<J> {
                 worker: self.ticket.slot() as usize,
                 scope: self.ticket.scope_call(),
             },
-            Load::Inside(_) | Load::Injected(_) => Taken::Plain(number),
+            Load::Inside(_) | Load::Injected(_) | Load::Piece(_) => Taken::Plain(number),
         }
     }
 
-    /// Whether it brings a job, and so is no token.
+    /// Whether it brings a job or a piece of one, and so is no token.
     #[inline(always)]
     pub fn has_job(&self) -> bool
         ensures { IsTrue result ↔ HasJob self.now.work }
     {
         match &self.load {
             Load::Token => false,
-            Load::Inside(_) | Load::Injected(_) => true,
+            Load::Inside(_) | Load::Injected(_) | Load::Piece(_) => true,
         }
     }
 
@@ -127,21 +132,24 @@ impl<J: JobKind> Task<J> {
         }
     }
 
-    /// Whether the call was made outside the pool.
+    /// Whether the call was made outside the pool. It is false of a token, and of a piece of a broadcast.
     pub fn injected(&self) -> bool
         ensures { result ≡ self.now.injected }
     {
         match &self.load {
             Load::Injected(_) => true,
-            Load::Inside(_) | Load::Token => false,
+            Load::Inside(_) | Load::Piece(_) | Load::Token => false,
         }
     }
 
-    /// Whether there is one job to run.
+    /// Whether there is one job to run, which is the task's alone.
     pub fn is_single(&self) -> bool
         ensures { IsTrue result ↔ IsSingle self.now.work }
     {
-        self.first.is_none() && self.has_job()
+        match (&self.load, &self.first) {
+            (Load::Inside(_) | Load::Injected(_), None) => true,
+            _ => false,
+        }
     }
 }
 
@@ -160,6 +168,41 @@ pub fn task_of_job<J: JobKind>(job: J, injected: bool, ticket: Ticket<J>) -> Tas
         ticket,
         first: None,
     }
+}
+
+/// The piece of a broadcast of this job that has this ticket.
+pub fn task_of_piece<J: JobKind>(job: SharedJob<J>, ticket: Ticket<J>) -> Task<J>
+    ensures { result ≡ record { work = OnePiece; injected = false; ticket = ticket } }
+{
+    Task {
+        load: Load::Piece(job),
+        ticket,
+        first: None,
+    }
+}
+
+/// The pieces of a broadcast of this job to so many workers, by the workers' indices: each has a share of this ticket,
+/// under a name of its own, of which the first is `first` and each further one is one more. Refused `NoRoom`.
+pub fn pieces_of<J: JobKind>(
+    alloc: Global,
+    job: &SharedJob<J>,
+    ticket: &Ticket<J>,
+    first: u64,
+    workers: usize,
+) -> Result<Vec<Task<J>>, Refusal>
+    requires { first + workers < 2 ^ 64 }
+    ensures made { IfOk result (λ pieces. pieces.items ≡ pieces_for ticket.now first workers) }
+    ensures refused { IfErr result (λ r. r ≡ Refusal.NoRoom) }
+{
+    let Ok(mut pieces) = Vec::with_capacity(alloc, workers) else {
+        return Err(Refusal::NoRoom);
+    };
+    for index in 0..workers {
+        let share = ticket.share()?;
+        let name = first + index as u64;
+        pieces.push_reserved(task_of_piece(job.share()?, share.renamed(name)));
+    }
+    Ok(pieces)
 }
 
 /// The token of this ticket, which stands for the first job of a FIFO list: that of the worker whose index the ticket
@@ -236,6 +279,7 @@ pub fn task_parts<J: JobKind>(task: Task<J>) -> (Work<J>, bool, Ticket<J>)
     match load {
         Load::Inside(job) => (work_beside(job, first), false, ticket),
         Load::Injected(job) => (work_beside(job, first), true, ticket),
+        Load::Piece(job) => (Work::Piece(job), false, ticket),
         Load::Token => (Work::Token, false, ticket),
     }
 }

@@ -27,6 +27,8 @@ pub enum PoolCall {
     Join,
     /// `ThreadPool::spawn`.
     Spawn,
+    /// `PoolRef::spawn_broadcast`.
+    Broadcast,
     /// `PoolRef::scope`, with a job as its body.
     Scope,
     /// `InPlaceCalls::in_place_scope`, with two spawns.
@@ -44,10 +46,12 @@ impl Call {
             "install" => Call::OnPool(PoolCall::Install),
             "pool_join" => Call::OnPool(PoolCall::Join),
             "pool_spawn" => Call::OnPool(PoolCall::Spawn),
+            "pool_broadcast" => Call::OnPool(PoolCall::Broadcast),
             "pool_scope" => Call::OnPool(PoolCall::Scope),
             "in_place_scope" => Call::OnPool(PoolCall::InPlaceScope),
             "spawn" => Call::OnPool(PoolCall::OnWorker(WorkerCall::Spawn)),
             "spawn_fifo" => Call::OnPool(PoolCall::OnWorker(WorkerCall::SpawnFifo)),
+            "broadcast" => Call::OnPool(PoolCall::OnWorker(WorkerCall::Broadcast)),
             "scope" => Call::OnPool(PoolCall::OnWorker(WorkerCall::Scope)),
             "scope_fifo" => Call::OnPool(PoolCall::OnWorker(WorkerCall::ScopeFifo)),
             "join" => Call::OnPool(PoolCall::OnWorker(WorkerCall::Join)),
@@ -64,7 +68,8 @@ impl Call {
 }
 
 impl PoolCall {
-    // How many workers the pool has: one where the call is of a task in the own deque that none may steal, else two.
+    // How many workers the pool has: one where the call is of a task in the own deque that none may steal, three where
+    // each runs a piece, else two.
     fn workers(self) -> usize {
         match self {
             PoolCall::OnWorker(
@@ -74,14 +79,17 @@ impl PoolCall {
                 | WorkerCall::ScopeFifo
                 | WorkerCall::Deep,
             ) => 1,
+            PoolCall::Broadcast | PoolCall::OnWorker(WorkerCall::Broadcast) => 3,
             _ => 2,
         }
     }
 
-    // Whether the job runs after the call: the number of runs is told once the pool has ended.
+    // Whether the job, or its pieces, run after the call: the number of runs is told once the pool has ended.
     fn spawns(self) -> bool {
         match self {
-            PoolCall::Spawn | PoolCall::OnWorker(WorkerCall::Spawn | WorkerCall::SpawnFifo) => true,
+            PoolCall::Spawn | PoolCall::Broadcast => true,
+            PoolCall::OnWorker(WorkerCall::Spawn | WorkerCall::SpawnFifo | WorkerCall::Broadcast) =>
+                true,
             _ => false,
         }
     }
@@ -142,6 +150,18 @@ fn spawn<R: Wait>(
     Ok(spawned(pool.spawn(rt, alloc, job), desk, Name::Installed))
 }
 
+// Broadcasts a job from outside whose pieces count their runs.
+fn broadcast<R: Wait>(
+    rt: &R,
+    alloc: Global,
+    pool: &ThreadPool<Work>,
+    desk: &Arc<Desk>,
+) -> Result<Outcome, Refusal> {
+    let job = Work::new(Name::Installed, desk, Deed::Number(7))?;
+    let answer = pool.spawn_broadcast(rt, alloc, job);
+    Ok(spawned(answer, desk, Name::Installed))
+}
+
 // Makes a call and, where it is refused, the same again.
 fn twice<F: Fn() -> Result<Outcome, Refusal>>(call: F) -> Result<Report, Refusal>
     requires { F.IsAlwaysCallable call }
@@ -197,6 +217,7 @@ fn make_on_pool<R: Threads + Wait + Copy + Send + 'static>(
         PoolCall::Install => twice(|| install(rt, alloc, &pool, &desk)),
         PoolCall::Join => twice(|| join(rt, alloc, &pool, &desk)),
         PoolCall::Spawn => twice(|| spawn(rt, alloc, &pool, &desk)),
+        PoolCall::Broadcast => twice(|| broadcast(rt, alloc, &pool, &desk)),
         PoolCall::Scope => twice(|| pool_scope(rt, alloc, &pool, &desk)),
         PoolCall::InPlaceScope => twice(|| Ok(in_place_scope(rt, alloc, &pool, &desk))),
         PoolCall::OnWorker(call) => install_caller(rt, alloc, &pool, &desk, call),

@@ -25,6 +25,8 @@ pub enum WorkerCall {
     Spawn,
     /// `WorkerThread::spawn_fifo`.
     SpawnFifo,
+    /// `WorkerThread::spawn_broadcast`.
+    Broadcast,
     /// `ScopeCalls::scope`, with two spawns.
     Scope,
     /// `ScopeCalls::scope_fifo`, likewise.
@@ -89,6 +91,7 @@ fn make_once<R: Waits<Work>>(
         WorkerCall::Owner => Ok(owner(w, desk)),
         WorkerCall::Spawn => spawn(rt, alloc, w, desk, false),
         WorkerCall::SpawnFifo => spawn(rt, alloc, w, desk, true),
+        WorkerCall::Broadcast => broadcast(rt, alloc, w, desk),
         WorkerCall::Scope => Ok(scope(rt, alloc, w, desk)),
         WorkerCall::ScopeFifo => Ok(scope_fifo(rt, alloc, w, desk)),
         WorkerCall::Deep => Ok(Outcome::Unlike),
@@ -162,6 +165,24 @@ fn spawn<R: Waits<Work>>(
     } else {
         w.spawn(rt, alloc, job)
     };
+    Ok(spawned(answer, desk, Name::First))
+}
+
+// Broadcasts a job whose pieces count their runs.
+fn broadcast<R: Waits<Work>>(
+    rt: &R,
+    alloc: Global,
+    w: &mut WorkerThread<Work>,
+    desk: &Arc<Desk>,
+) -> Result<Outcome, Refusal>
+    ensures id { w.new.id ≡ w.old.id }
+    ensures level { w.new.levels ≡ w.old.levels }
+    ensures units { w.new.units ≡ w.old.units }
+    ensures seat { w.new.seat ≡ w.old.seat }
+    ensures shape { w.new.shape ≡ w.old.shape }
+{
+    let job = Work::new(Name::First, desk, Deed::Number(7))?;
+    let answer = w.spawn_broadcast(rt, alloc, job);
     Ok(spawned(answer, desk, Name::First))
 }
 

@@ -74,7 +74,7 @@ impl Desk {
 /// What a job does.
 #[derive(Clone, Copy, PartialEq, Eq)]
 pub enum Deed {
-    /// Counts its run, and answers this number.
+    /// Counts its run, and answers this number. A piece of a broadcast counts its run too.
     Number(u64),
     /// Makes a call on its worker, and again where that was refused.
     Call(WorkerCall),
@@ -142,7 +142,8 @@ pub fn joined(
     }
 }
 
-/// What a spawn gave of a job with this name: 0 where it was queued, to which its run is added once it has run.
+/// What a spawn or a broadcast gave of a job with this name: 0 where it was queued, to which its runs are added once
+/// they are over.
 pub fn spawned(answer: Result<(), (Refusal, Work)>, desk: &Arc<Desk>, name: Name) -> Outcome {
     match answer {
         Ok(()) => Outcome::Answered(0),

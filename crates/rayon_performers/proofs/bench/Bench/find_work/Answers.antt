@@ -9,7 +9,7 @@ use Rattle.rayon_performers.proofs.Stretches.{So}
 use Rattle.rayon_performers.proofs.bench.Bench.find_work.Goals as goal
 
 pub perform-seen-requires : goal.perform-seen-requires
-perform-seen-requires g c = yield_needs c.args.self.now.index c.party-party.result c.loop.place c.act.result c.loop.self c.party-party.ensures c.act.ensures c.loop.invariant.4
+perform-seen-requires g c = yield_needs c.args.self.now.index c.party-party.result c.loop.place c.act.result c.args.self.now c.loop.self c.party-party.ensures c.act.ensures c.loop.invariant.4
 
 pub returns-in-BeginTask-clause-path : goal.returns-in-BeginTask-clause-path
 returns-in-BeginTask-clause-path g c =

@@ -6,4 +6,4 @@ use Rattle.rayon_performers.proofs.bench.Bench.find_work.Given as goal
 
 abbrev pub invariant-loop : goal.invariant-loop
 invariant-loop g l =
-    (goal.iterator-loop g).can_next l.iterator' × (goal.iterator-loop g).is_finite l.iterator' × So l.fn.self.shape l.fn.self.index (Stay at.YieldPop) l.fn.self (Stay l.place) l.self × Missed l.fn.self l.self × IsYield l.place
+    (goal.iterator-loop g).can_next l.iterator' × (goal.iterator-loop g).is_finite l.iterator' × So l.fn.self.shape l.fn.self.index (Stay at.YieldPop) l.fn.self (Stay l.place) l.self × Missed l.fn.self l.self × IsYield l.place l.fn.self l.self

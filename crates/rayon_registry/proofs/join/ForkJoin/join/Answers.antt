@@ -28,7 +28,7 @@ returns-clause-path g c =
     let v = c.args.self.now in
     let w = c.end_join-second.new.self in
     let e = ended_so (is_err c.a-first.result) in
-    let same : g.Self.Sides.id w ≡ g.Self.Sides.id v = search rules in
+    let same : g.Self.Lends.id w ≡ g.Self.Lends.id v = search rules in
     let met = subst (λ (b : Bool). g.Self.Sides.met (ended_so b) c.in-Ok.fork w) c.is_err.ensures.value c.end_join-second.ensures.path in
     closure_join_made (λ e. g.Self.Sides.joined e v w) (g.Self.Sides.handed_back v w) c.a-first.result c.end_join-second.result c.join_answer.result c.join_answer.ensures.same
-    (g.Self.Sides.joins e v w c.in-Ok.fork same c.in-Ok.ensures.path met)
+    (g.met.Self.Sides.joins e v w c.in-Ok.fork same c.in-Ok.ensures.path met)

@@ -1,0 +1,12 @@
+use Rattle.std.proofs.Common.{rules, arith}
+use Rattle.rayon_tasks.proofs.Pieces.{one_more}
+use Rattle.rayon_tasks.proofs.task.pieces_of.Goals as goal
+
+pub loop-index-preserved : goal.loop-index-preserved
+loop-index-preserved g c = (
+  omega arith,
+  one_more c.args.ticket.now c.args.first c.loop-index.index c.loop-index.pieces.items c.push_reserved.new.self.items c.task_of_piece.result
+      c.loop-index.invariant.1 c.push_reserved.ensures.items (search rules),
+  grind (arith),
+  grind (arith),
+)

@@ -4,4 +4,6 @@
 #[cfg(test)]
 mod deed;
 #[cfg(test)]
+mod scopes;
+#[cfg(test)]
 mod tests;

@@ -2,7 +2,7 @@
 ghost use Rattle.rayon_core.specs.Worker.{SameWorker};
 ghost use Rattle.std.specs.Prelude.{◌≡◌, ◌≤◌};
 
-use crate::scopes::{Endings, fill, open, open_by_job, open_fifo, open_fifo_by_job};
+use crate::scopes::{Endings, fill, open, open_by_job};
 use rayon_core::latch::LockLatch;
 use rayon_core::{
     BroadcastContext, CallError, FnContext, Job, JobKind, NoHandler, Refusal, Waits, WorkerThread,
@@ -32,14 +32,10 @@ pub enum Deed {
     End(Result<u64, Refusal>),
     /// Opens a scope that ends so, and answers its digits.
     Open(Endings),
-    /// Opens one in order.
-    OpenFifo(Endings),
     /// Spawns two jobs into the scope that it is of, and ends so.
     Fill(Endings),
     /// Has such a job for the body of a scope, and answers the scope's digits.
     OpenByJob(Endings),
-    /// The same, of a scope in order.
-    OpenFifoByJob(Endings),
 }
 
 impl JobKind for Deed {
@@ -85,10 +81,8 @@ impl Job for Deed {
             Deed::SpawnFifoSet(latch) => spawned(spawn_fifo(rt, alloc, w, Deed::Set(latch))),
             Deed::End(end) => end,
             Deed::Open(ends) => open(rt, alloc, w, ends),
-            Deed::OpenFifo(ends) => open_fifo(rt, alloc, w, ends),
             Deed::Fill(ends) => fill(rt, alloc, w, ctx, ends),
             Deed::OpenByJob(ends) => open_by_job(rt, alloc, w, ends),
-            Deed::OpenFifoByJob(ends) => open_fifo_by_job(rt, alloc, w, ends),
         }
     }
 

@@ -17,12 +17,13 @@ use std::sync::Wait;
 use std::test::Fail;
 use std::thread::Threads;
 
-/// How two jobs of a scope end, and how its body does.
+/// How two jobs of a scope end, how its body does, and whether the jobs are spawned in order.
 #[derive(Clone, Copy)]
 pub struct Endings {
     first: Result<u64, Refusal>,
     second: Result<u64, Refusal>,
     body: Result<u64, Refusal>,
+    in_order: bool,
 }
 
 // What the body of a scope answers: a digit, and the numbers of its two jobs.
@@ -38,23 +39,8 @@ pub fn open<R: Waits<Deed>>(
     requires { w.old.levels ≤ R.levels rt.now }
     ensures same { SameWorker w.old w.new }
 {
-    digits(in_place_scope(rt, alloc, w, |w, scope| {
-        spawn_two(rt, alloc, w, scope, ends)
-    }))
-}
-
-/// The same, of a scope in order.
-pub fn open_fifo<R: Waits<Deed>>(
-    rt: &R,
-    alloc: Global,
-    w: &mut WorkerThread<Deed>,
-    ends: Endings,
-) -> Result<u64, Refusal>
-    requires { w.old.levels ≤ R.levels rt.now }
-    ensures same { SameWorker w.old w.new }
-{
     digits(in_place_scope_fifo(rt, alloc, w, |w, scope| {
-        spawn_two_in_order(rt, alloc, w, scope, ends)
+        spawn_two(rt, alloc, w, scope, ends)
     }))
 }
 
@@ -70,18 +56,6 @@ fn open_outside<R: Wait>(
     }))
 }
 
-// The same, of a scope in order.
-fn open_fifo_outside<R: Wait>(
-    rt: &R,
-    alloc: Global,
-    here: &mut Outside<'_, Deed>,
-    ends: Endings,
-) -> Result<u64, Refusal> {
-    digits(in_place_scope_fifo(rt, alloc, here, |here, scope| {
-        spawn_two_in_order(rt, alloc, here, scope, ends)
-    }))
-}
-
 // Spawns two jobs into a scope, on either side, and ends so.
 fn spawn_two<R, C: SpawnsInto<Deed, R>>(
     rt: &R,
@@ -92,24 +66,34 @@ fn spawn_two<R, C: SpawnsInto<Deed, R>>(
 ) -> Result<Spawned, Refusal>
     ensures same { C.same here.old here.new }
 {
-    let first = number(spawn_into(rt, alloc, here, scope, Deed::End(ends.first)))?;
-    let second = number(spawn_into(rt, alloc, here, scope, Deed::End(ends.second)))?;
+    let first = spawn_one(rt, alloc, here, scope, Deed::End(ends.first), ends.in_order)?;
+    let second = spawn_one(
+        rt,
+        alloc,
+        here,
+        scope,
+        Deed::End(ends.second),
+        ends.in_order,
+    )?;
     Ok((ends.body?, first, second))
 }
 
-// The same, in order.
-fn spawn_two_in_order<R, C: SpawnsInto<Deed, R>>(
+// Spawns a job into a scope, in order or not, and answers its number.
+fn spawn_one<R, C: SpawnsInto<Deed, R>>(
     rt: &R,
     alloc: Global,
     here: &mut C,
     scope: &mut C::Scope,
-    ends: Endings,
-) -> Result<Spawned, Refusal>
+    job: Deed,
+    in_order: bool,
+) -> Result<u64, Refusal>
     ensures same { C.same here.old here.new }
 {
-    let first = number(spawn_fifo_into(rt, alloc, here, scope, Deed::End(ends.first)))?;
-    let second = number(spawn_fifo_into(rt, alloc, here, scope, Deed::End(ends.second)))?;
-    Ok((ends.body?, first, second))
+    if in_order {
+        number(spawn_fifo_into(rt, alloc, here, scope, job))
+    } else {
+        number(spawn_into(rt, alloc, here, scope, job))
+    }
 }
 
 /// Spawns two jobs into the scope that this run's job is of, and ends so. `Ended` where it is of none.
@@ -140,19 +124,6 @@ pub fn open_by_job<R, C: SpawnsInto<Deed, R, Outputs = Vec<Done<Deed>>>>(
     ensures same { C.same here.old here.new }
 {
     all_digits(scope(rt, alloc, here, Deed::Fill(ends)))
-}
-
-/// The same, of a scope in order.
-pub fn open_fifo_by_job<R, C: SpawnsInto<Deed, R, Outputs = Vec<Done<Deed>>>>(
-    rt: &R,
-    alloc: Global,
-    here: &mut C,
-    ends: Endings,
-) -> Result<u64, Refusal>
-    requires { C.has_levels here.old rt.now }
-    ensures same { C.same here.old here.new }
-{
-    all_digits(scope_fifo(rt, alloc, here, Deed::Fill(ends)))
 }
 
 // The number that a spawn gave, without the job that it handed back.
@@ -211,23 +182,18 @@ fn installed<R: Wait>(
     once(install(rt, alloc, here, job))
 }
 
-// What scopes give that end so: outside of a run and within one, in place and with a job for the body, in order and
-// not.
+// What scopes give that end so: outside of a run and within one, in place and with a job for the body.
 fn each_way<R: Wait>(
     rt: &R,
     alloc: Global,
     here: &mut Outside<'_, Deed>,
     ends: Endings,
-) -> [Result<u64, Refusal>; 8] {
+) -> [Result<u64, Refusal>; 4] {
     [
         open_outside(rt, alloc, here, ends),
-        open_fifo_outside(rt, alloc, here, ends),
         open_by_job(rt, alloc, here, ends),
-        open_fifo_by_job(rt, alloc, here, ends),
         installed(rt, alloc, here, Deed::Open(ends)),
-        installed(rt, alloc, here, Deed::OpenFifo(ends)),
         installed(rt, alloc, here, Deed::OpenByJob(ends)),
-        installed(rt, alloc, here, Deed::OpenFifoByJob(ends)),
     ]
 }
 
@@ -237,7 +203,7 @@ fn scopes_on<R: Threads + Wait + Abort + Copy + Send + 'static>(
     alloc: Global,
     workers: usize,
     ends: Endings,
-) -> [Result<u64, Refusal>; 8] {
+) -> [Result<u64, Refusal>; 4] {
     let (ids, global) = (Ids::new(), GlobalPool::new());
     global.end_after(rt, |global| {
         let builder = ThreadPoolBuilder::new().num_threads(workers);
@@ -247,18 +213,40 @@ fn scopes_on<R: Threads + Wait + Abort + Copy + Send + 'static>(
     })
 }
 
+// What scopes on 1, 2 or 4 workers give that end so, in order or not, where one of them gives anything but this.
+fn unlike<R: Threads + Wait + Abort + Copy + Send + 'static>(
+    rt: &R,
+    alloc: Global,
+    ends: Endings,
+    wanted: Result<u64, Refusal>,
+) -> Option<[Result<u64, Refusal>; 4]> {
+    for workers in [1, 2, 4] {
+        let found = scopes_on(rt, alloc, workers, ends);
+        let ordered = Endings {
+            in_order: true,
+            ..ends
+        };
+        let in_order = scopes_on(rt, alloc, workers, ordered);
+        if found != [wanted; 4] {
+            return Some(found);
+        }
+        if in_order != [wanted; 4] {
+            return Some(in_order);
+        }
+    }
+    None
+}
+
 // A scope answers what its body answered, and each job's output at its number, on both sides and on any pool.
 #[test]
 fn outputs_are_found_by_number(rt: HostRuntime) -> Result<(), Fail> {
-    let alloc = rt.alloc();
     let ends = Endings {
         first: Ok(2),
         second: Ok(3),
         body: Ok(1),
+        in_order: false,
     };
-    for workers in [1, 2, 4] {
-        assert_eq!(rt; scopes_on(&rt, alloc, workers, ends), [Ok(123); 8]);
-    }
+    assert_eq!(rt; unlike(&rt, rt.alloc(), ends, Ok(123)), None);
     Ok(())
 }
 
@@ -270,18 +258,15 @@ fn faults_are_answered(rt: HostRuntime) -> Result<(), Fail> {
         first: Ok(2),
         second: Ok(3),
         body: Err(Refusal::Full),
+        in_order: false,
     };
     let job = Endings {
-        first: Ok(2),
         second: Err(Refusal::NoRoom),
         body: Ok(1),
+        ..body
     };
-    for workers in [1, 2, 4] {
-        let found = scopes_on(&rt, alloc, workers, body);
-        assert_eq!(rt; found, [Err(Refusal::Full); 8]);
-        let found = scopes_on(&rt, alloc, workers, job);
-        assert_eq!(rt; found, [Err(Refusal::NoRoom); 8]);
-    }
+    assert_eq!(rt; unlike(&rt, alloc, body, Err(Refusal::Full)), None);
+    assert_eq!(rt; unlike(&rt, alloc, job, Err(Refusal::NoRoom)), None);
     Ok(())
 }
 
@@ -299,7 +284,7 @@ fn hands_closure_back<R: Wait>(rt: &R, alloc: Global, here: &mut Outside<'_, Dee
 
 // Whether one whose body is a job does so.
 fn hands_job_back<R: Wait>(rt: &R, alloc: Global, here: &mut Outside<'_, Deed>) -> bool {
-    let refused = scope(rt, alloc, here, Deed::End(Ok(7)));
+    let refused = scope_fifo(rt, alloc, here, Deed::End(Ok(7)));
     matches!(
         &refused,
         Err(CallError::Refused(Refusal::Ended, Deed::End(Ok(7))))

@@ -19,7 +19,7 @@ pub use global_pool::GlobalPool;
 pub use outside::Outside;
 pub use rayon_core::max_num_threads;
 pub use scopes::{
-    Scopes, SpawnsInto, in_place_scope, in_place_scope_fifo, scope, scope_fifo, spawn_fifo_into,
-    spawn_into,
+    Scopes, SpawnsInto, in_place_scope, in_place_scope as in_place_scope_fifo, scope,
+    scope as scope_fifo, spawn_fifo_into, spawn_into,
 };
 pub use surroundings::builder_of_environment;

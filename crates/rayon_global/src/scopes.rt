@@ -229,6 +229,9 @@ impl<'p, J: JobKind, R: Wait> Scopes<J, R> for Outside<'p, J> {
 /// the body or a job has a fault that is answered: the one that was stored first, of several. Refused `TooDeep` exactly
 /// where a worker value has no level left, `Ended`, `Full`, `NoRoom`, with the body back and `here` unchanged, and the
 /// body has not run. rayon-core's scope answers no outputs, and its body is lent the scope alone.
+///
+/// `in_place_scope_fifo` is another name of it: any scope takes jobs that are spawned in order too, by
+/// `spawn_fifo_into`. rayon-core has a type of its own for each kind.
 pub fn in_place_scope<
     J: JobKind,
     R,
@@ -261,36 +264,6 @@ pub fn in_place_scope<
     let answer = body(here, &mut scope);
     let ended = here.end_scope_here(rt, alloc, opened, scope, answer.is_err());
     scope_answer(answer, ended)
-}
-
-/// The same as `in_place_scope`, for jobs that are spawned into it in order, by `spawn_fifo_into`: any scope takes both
-/// kinds of spawns. rayon-core has a type of its own for each.
-pub fn in_place_scope_fifo<
-    J: JobKind,
-    R,
-    C: Scopes<J, R>,
-    V: Drop,
-    B: FnOnce(&mut C, &mut C::Scope) -> Result<V, J::Fault>,
->(
-    rt: &R,
-    alloc: Global,
-    here: &mut C,
-    body: B,
-) -> Result<Ended<V, C::Outputs>, CallError<J::Fault, B>>
-    requires levels { C.has_levels here.old rt.now }
-    requires callable { (w : _) (s : _) → C.lent here.old w.now → C.receipts s.now ≡ [] → C.keeps s.now ≡ true → B.pre body w s }
-    requires keeps { (w : _) (s : _) (r : _) (v : _) (t : _) → B.post body w s r v t → C.same w.now v.now }
-    ensures ok { IfOk result (λ e. (w : _) × (s : _) × (v : _) × (t : _) × (C.receipts s.now ≡ []) × (C.keeps s.now ≡ true) × B.post body w s (Ok e.value) v t × MetBy J.Tag.eq (C.runs e.outputs) (C.receipts t.now)) }
-    ensures fault { (f : _) → result ≡ Err (CallError.Fault f) → ((w : _) × (s : _) × (v : _) × (t : _) × B.post body w s (Err f) v t) ⊎ ((r : Run J.Tag J.Output J.Fault) × Within J.answers (J.answers_on J.answers) r × (r.answer ≡ Err f)) }
-    ensures missing { result ≡ Err CallError.Missing → (w : _) × (s : _) × (x : _) × (v : _) × (t : _) × B.post body w s (Ok x) v t }
-    ensures foreign { result ≡ Err CallError.Foreign → (w : _) × (s : _) × (x : _) × (v : _) × (t : _) × (o : C.Outputs) × B.post body w s (Ok x) v t × (MetBy J.Tag.eq (C.runs o) (C.receipts t.now) → ⊥) }
-    ensures back { (r : _) (b : _) → result ≡ Err (CallError.Refused r b) → (b ≡ body) × C.kept here.old here.new }
-    ensures deep { C.too_deep here.old → result ≡ Err (CallError.Refused Refusal.TooDeep body) }
-    ensures shallow { (b : _) → result ≡ Err (CallError.Refused Refusal.TooDeep b) → C.too_deep here.old }
-    ensures same { C.same here.old here.new }
-    ensures path { CallMade (C.scoped Fine here.old here.new) ((e : Ending) × C.scoped e here.old here.new) (C.not_opened here.old here.new) result }
-{
-    in_place_scope(rt, alloc, here, body)
 }
 
 /// What jobs are spawned into a scope from: inside a run the worker value, and outside an `Outside`.
@@ -455,6 +428,8 @@ pub fn spawn_fifo_into<J: JobKind, R, C: SpawnsInto<J, R>>(
 /// number, and as the value the body's own number among them. Where the body or a job has a fault that is answered: the
 /// one that was stored first, of several. Refused `TooDeep` exactly where a worker value has no level left, `Ended`,
 /// `Full`, `NoRoom`, with the body back, and it has not run. rayon-core's scope answers what its body answers alone.
+///
+/// `scope_fifo` is another name of it: any scope takes jobs that are spawned in order too, by `spawn_fifo_into`.
 pub fn scope<J: JobKind, R, C: SpawnsInto<J, R>>(
     rt: &R,
     alloc: Global,
@@ -480,24 +455,4 @@ pub fn scope<J: JobKind, R, C: SpawnsInto<J, R>>(
         Ok(number) => scope_answer(Ok(number), outputs),
         Err((refusal, body)) => Err(CallError::Refused(refusal, body)),
     }
-}
-
-/// The same as `scope`, for jobs that the body spawns in order, by `spawn_fifo_into`: any scope takes both kinds of
-/// spawns. rayon-core has a type of its own for each.
-pub fn scope_fifo<J: JobKind, R, C: SpawnsInto<J, R>>(
-    rt: &R,
-    alloc: Global,
-    here: &mut C,
-    body: J,
-) -> Result<Ended<u64, C::Outputs>, CallError<J::Fault, J>>
-    requires levels { C.has_levels here.old rt.now }
-    ensures ok { IfOk result (λ e. MetBy J.Tag.eq (C.runs e.outputs) (record { number = e.value; tag = J.tag_of body; place = None } ∷ [])) }
-    ensures fault { (f : _) → result ≡ Err (CallError.Fault f) → (r : Run J.Tag J.Output J.Fault) × Within J.answers (J.answers_on J.answers) r × (r.answer ≡ Err f) }
-    ensures back { (r : _) (b : _) → result ≡ Err (CallError.Refused r b) → b ≡ body }
-    ensures deep { C.too_deep here.old → result ≡ Err (CallError.Refused Refusal.TooDeep body) }
-    ensures shallow { (b : _) → result ≡ Err (CallError.Refused Refusal.TooDeep b) → C.too_deep here.old }
-    ensures same { C.same here.old here.new }
-    ensures path { CallMade (C.scoped Fine here.old here.new) (C.scoped Fine here.old here.new) (C.not_opened here.old here.new ⊎ C.scoped Fine here.old here.new) result }
-{
-    scope(rt, alloc, here, body)
 }

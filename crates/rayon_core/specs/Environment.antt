@@ -33,5 +33,5 @@ abbrev pub workers_for : ℕ → Option ℕ → Option ℕ → ℕ → ℕ
 workers_for asked first second processors = min 65535 (unless_zero asked (by_first first second (max 1 processors)))
 
 -- how many workers a pool of these settings has
-abbrev pub workers_of : {H N : Type 0} → Settings H N → ℕ
+abbrev pub workers_of : {H N S : Type 0} → Settings H N S → ℕ
 workers_of s = workers_for s.num_threads s.first s.second s.processors

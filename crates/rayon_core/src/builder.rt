@@ -1,30 +1,29 @@
 //! How a pool is made.
 ghost use Rattle.rayon_core.specs.Environment.{Says, workers_of};
 ghost use Rattle.rayon_core.specs.Texts.{fixed_text};
-ghost use Rattle.std.specs.Prelude.{◌≡◌, ℕ, ◌+◌, ◌-◌, ◌^◌, ◌<◌, max, length, IfOk, IfErr, MatchOption, None, Some, true, false};
+ghost use Rattle.rayon_core.specs.Threads.{Took, TookFirst};
+ghost use Rattle.std.specs.Prelude.{◌≡◌, ℕ, ◌+◌, ◌-◌, ◌^◌, ◌<◌, max, length, All, is_some, IfOk, IfErr, MatchOption, None, Some, true, false};
 
 use crate::build_error::ThreadPoolBuildError;
 use crate::environment::{Environment, number_in};
-use crate::thread_names::{NamesBy, NoNames, ThreadNames, given_name};
+use crate::thread_builder::ThreadBuilder;
+use crate::thread_names::{NamesBy, NoNames, ThreadNames};
 use crate::thread_pool::{ThreadPool, end_workers};
-use rayon_jobs::{JobKind, PoolHandler};
-use rayon_performers::{Registry, WorkerKit, WorkerSeats};
-use rayon_queues::WorkerDeque;
-use rayon_registry::{
-    Handlers, Ids, Job, PoolRef, SharedFaults, ThreadBuilder, WorkerId, faults_of, new_pool,
-    shared_of,
-};
+use crate::thread_spawn::{CustomSpawn, DefaultSpawn, ThreadSpawn};
+use crate::thread_start::start_thread;
+use rayon_jobs::JobKind;
+use rayon_performers::WorkerKit;
+use rayon_registry::{Handlers, Ids, Job, PoolRef, new_pool};
 use rayon_tasks::Task;
 use std::alloc::{AllocError, AllocFailed, Global};
 use std::marker::{Model, PhantomData};
-use std::sync::{Arc, Wait};
-use std::thread;
+use std::sync::Wait;
 use std::thread::{JoinHandle, Threads};
 
 /// What a pool is to be like. Contracts see what was set. `N` is what names its threads: nothing, until `thread_name`
-/// is called.
+/// is called. `S` is what starts them: the pool itself, until `spawn_handler` is called.
 #[derive(Drop)]
-pub struct ThreadPoolBuilder<J: JobKind, N = NoNames> {
+pub struct ThreadPoolBuilder<J: JobKind, N = NoNames, S = DefaultSpawn> {
     num_threads: usize,
     environment: Environment,
     stack_size: Option<usize>,
@@ -33,13 +32,14 @@ pub struct ThreadPoolBuilder<J: JobKind, N = NoNames> {
     breadth_first: bool,
     handlers: Handlers<J::Handler>,
     names: N,
+    spawn: S,
     jobs: PhantomData<J>,
 }
 
-impl<J: JobKind, N> Model for ThreadPoolBuilder<J, N> {
+impl<J: JobKind, N, S> Model for ThreadPoolBuilder<J, N, S> {
     ghost use Rattle.rayon_core.specs.Settings.{Settings};
 
-    ghost Value = { Settings J.Handler N };
+    ghost Value = { Settings J.Handler N S };
 
     ghost view = { λ b. record {
       num_threads = b.num_threads;
@@ -54,6 +54,7 @@ impl<J: JobKind, N> Model for ThreadPoolBuilder<J, N> {
       start_handler = b.handlers.start;
       exit_handler = b.handlers.exit;
       names = b.names;
+      spawn = b.spawn;
     } };
 }
 
@@ -61,7 +62,7 @@ impl<J: JobKind> ThreadPoolBuilder<J> {
     /// Settings of which none was made: the builder chooses how many workers, with no word of the environment and an
     /// unknown number of processors, and runs may nest as deep as the stack of a thread allows, which is the system's.
     pub fn new() -> ThreadPoolBuilder<J>
-        ensures { result ≡ record { num_threads = 0; first = None; second = None; processors = 0; stack_size = None; depth_limit = 2 ^ 64 - 1; steal_seed = 0; breadth_first = false; panic_handler = None; start_handler = None; exit_handler = None; names = result.names } }
+        ensures { result ≡ record { num_threads = 0; first = None; second = None; processors = 0; stack_size = None; depth_limit = 2 ^ 64 - 1; steal_seed = 0; breadth_first = false; panic_handler = None; start_handler = None; exit_handler = None; names = result.names; spawn = result.spawn } }
     {
         ThreadPoolBuilder {
             num_threads: 0,
@@ -76,15 +77,16 @@ impl<J: JobKind> ThreadPoolBuilder<J> {
                 exit: None,
             },
             names: NoNames,
+            spawn: DefaultSpawn,
             jobs: PhantomData,
         }
     }
 }
 
-impl<J: JobKind, N> ThreadPoolBuilder<J, N> {
+impl<J: JobKind, N, S> ThreadPoolBuilder<J, N, S> {
     /// Asks for this many workers, of which a pool has at most `max_num_threads()`; 0 leaves the choice to the builder
     /// (`worker_count`).
-    pub fn num_threads(self, num_threads: usize) -> ThreadPoolBuilder<J, N>
+    pub fn num_threads(self, num_threads: usize) -> ThreadPoolBuilder<J, N, S>
         ensures { result ≡ record self { num_threads = num_threads } }
     {
         let mut builder = self;
@@ -102,7 +104,7 @@ impl<J: JobKind, N> ThreadPoolBuilder<J, N> {
         first: Option<&str>,
         second: Option<&str>,
         processors: usize,
-    ) -> ThreadPoolBuilder<J, N>
+    ) -> ThreadPoolBuilder<J, N, S>
         ensures first { MatchOption first.entry (result.first ≡ None) (λ w. Says w.now result.first) }
         ensures second { MatchOption second.entry (result.second ≡ None) (λ w. Says w.now result.second) }
         ensures rest { result ≡ record self { first = result.first; second = result.second; processors = processors } }
@@ -130,7 +132,7 @@ impl<J: JobKind, N> ThreadPoolBuilder<J, N> {
     /// Sets how many bytes the stack of each worker's thread has, rounded up to a multiple of 128 KiB. Where that is
     /// not set the system's limit says it, mostly 8 MiB (`ulimit -s`; 2 MiB where there is no limit). A size that the
     /// system can't give makes `build` answer `IOError`.
-    pub fn stack_size(self, stack_size: usize) -> ThreadPoolBuilder<J, N>
+    pub fn stack_size(self, stack_size: usize) -> ThreadPoolBuilder<J, N, S>
         ensures { result ≡ record self { stack_size = Some stack_size } }
     {
         let mut builder = self;
@@ -143,7 +145,7 @@ impl<J: JobKind, N> ThreadPoolBuilder<J, N> {
     /// process. A level costs about 1,500 bytes of it by `join_jobs`, about 2,600 where a worker that waits takes the
     /// job from a queue, and on top of that what the job's own `run` needs. A limit of 2,000 leaves 4 KiB for a level
     /// of 8 MiB (500 do so of 2 MiB): safe for jobs whose `run` needs less than 1,400 bytes for its own variables.
-    pub fn depth_limit(self, depth_limit: usize) -> ThreadPoolBuilder<J, N>
+    pub fn depth_limit(self, depth_limit: usize) -> ThreadPoolBuilder<J, N, S>
         ensures { result ≡ record self { depth_limit = depth_limit } }
     {
         let mut builder = self;
@@ -152,7 +154,7 @@ impl<J: JobKind, N> ThreadPoolBuilder<J, N> {
     }
 
     /// Sets what is added to each worker's index for the seed by which it chooses from whom to steal first.
-    pub fn steal_seed(self, steal_seed: u64) -> ThreadPoolBuilder<J, N>
+    pub fn steal_seed(self, steal_seed: u64) -> ThreadPoolBuilder<J, N, S>
         ensures { result ≡ record self { steal_seed = steal_seed } }
     {
         let mut builder = self;
@@ -163,7 +165,7 @@ impl<J: JobKind, N> ThreadPoolBuilder<J, N> {
     /// Has each worker take the oldest task of its own deque first, where else it takes the newest. Jobs that spawn
     /// then go breadth first, and the second side of a join is found behind what was queued before it. No answer
     /// depends on it.
-    pub fn breadth_first(self) -> ThreadPoolBuilder<J, N>
+    pub fn breadth_first(self) -> ThreadPoolBuilder<J, N, S>
         ensures { result ≡ record self { breadth_first = true } }
     {
         let mut builder = self;
@@ -175,7 +177,7 @@ impl<J: JobKind, N> ThreadPoolBuilder<J, N> {
     /// keeping them for `take_fault`. The worker that ran a job tells it (`PoolHandler::panicked`), with no lock of the
     /// pool held, before the job's unit of the terminate count is given back; several workers may do so at a time.
     /// rayon-core takes a closure, and ends the process where there is none.
-    pub fn panic_handler(self, handler: J::Handler) -> ThreadPoolBuilder<J, N>
+    pub fn panic_handler(self, handler: J::Handler) -> ThreadPoolBuilder<J, N, S>
         ensures { result ≡ record self { panic_handler = Some handler } }
     {
         let mut builder = self;
@@ -187,7 +189,7 @@ impl<J: JobKind, N> ThreadPoolBuilder<J, N> {
     /// several threads may do so at a time, and `build` does not wait for it. A fault goes where that of a detached job
     /// goes, and the worker goes on. A build that is refused has each thread that it started tell this and the exit
     /// handler before it answers. rayon-core takes a closure.
-    pub fn start_handler(self, handler: J::Handler) -> ThreadPoolBuilder<J, N>
+    pub fn start_handler(self, handler: J::Handler) -> ThreadPoolBuilder<J, N, S>
         ensures { result ≡ record self { start_handler = Some handler } }
     {
         let mut builder = self;
@@ -198,7 +200,7 @@ impl<J: JobKind, N> ThreadPoolBuilder<J, N> {
     /// Sets what each worker's thread tells its index to once it has run its last job (`PoolHandler::exited`), before
     /// it ends: so all was told once the threads are joined (`end_and_join`). A fault goes where that of a detached job
     /// goes. rayon-core takes a closure, which may spawn jobs on a pool that has ended; this one is handed no pool.
-    pub fn exit_handler(self, handler: J::Handler) -> ThreadPoolBuilder<J, N>
+    pub fn exit_handler(self, handler: J::Handler) -> ThreadPoolBuilder<J, N, S>
         ensures { result ≡ record self { exit_handler = Some handler } }
     {
         let mut builder = self;
@@ -213,7 +215,7 @@ impl<J: JobKind, N> ThreadPoolBuilder<J, N> {
     pub fn thread_name<F: FnMut(usize) -> Result<String, AllocError>>(
         self,
         name: F,
-    ) -> ThreadPoolBuilder<J, NamesBy<F>>
+    ) -> ThreadPoolBuilder<J, NamesBy<F>, S>
     where
         N: Drop,
         ensures { result ≡ record {
@@ -229,6 +231,7 @@ impl<J: JobKind, N> ThreadPoolBuilder<J, N> {
           start_handler = self.start_handler;
           exit_handler = self.exit_handler;
           names = name;
+          spawn = self.spawn;
         } }
     {
         ThreadPoolBuilder {
@@ -240,10 +243,63 @@ impl<J: JobKind, N> ThreadPoolBuilder<J, N> {
             breadth_first: self.breadth_first,
             handlers: self.handlers,
             names: NamesBy::new(name),
+            spawn: self.spawn,
             jobs: PhantomData,
         }
     }
 
+    /// Sets what starts each worker's thread in place of the pool: a closure of `ThreadBuilder<J>`, whose type it has
+    /// to write, that answers `io::Result<()>`. `build` hands it one for each worker, in the order of the indices, and
+    /// it sees to it that a thread of its own calls `ThreadBuilder::run`. Its error makes `build` answer `IOError`.
+    /// Neither a refused `build` nor `ThreadPool::end_and_join` joins such threads: they leave once the pool has ended,
+    /// and whoever has their handles may wait for that. In rayon-core the type is inferred.
+    pub fn spawn_handler<F>(self, spawn: F) -> ThreadPoolBuilder<J, N, CustomSpawn<F>>
+    where
+        S: Drop,
+        ensures { result ≡ record {
+          num_threads = self.num_threads;
+          first = self.first;
+          second = self.second;
+          processors = self.processors;
+          stack_size = self.stack_size;
+          depth_limit = self.depth_limit;
+          steal_seed = self.steal_seed;
+          breadth_first = self.breadth_first;
+          panic_handler = self.panic_handler;
+          start_handler = self.start_handler;
+          exit_handler = self.exit_handler;
+          names = self.names;
+          spawn = spawn;
+        } }
+    {
+        let ThreadPoolBuilder {
+            num_threads,
+            environment,
+            stack_size,
+            depth_limit,
+            steal_seed,
+            breadth_first,
+            handlers,
+            names,
+            spawn: _,
+            jobs,
+        } = self;
+        ThreadPoolBuilder {
+            num_threads,
+            environment,
+            stack_size,
+            depth_limit,
+            steal_seed,
+            breadth_first,
+            handlers,
+            names,
+            spawn: CustomSpawn::new(spawn),
+            jobs,
+        }
+    }
+}
+
+impl<J: JobKind, N> ThreadPoolBuilder<J, N> {
     /// Makes the pool: draws its number, and starts its workers' threads, each after its name was asked for. Refused
     /// `NoIds`, `NoRoom`, `IOError`, in this order where more than one holds before a thread is started; what was
     /// started is ended and joined again, so no thread is left. It asks that a closure which names the threads may be
@@ -269,224 +325,106 @@ impl<J: JobKind, N> ThreadPoolBuilder<J, N> {
         ensures workers { IfOk result (λ p. p.workers ≡ workers_of self) }
         ensures depth { IfOk result (λ p. p.depth_limit ≡ max 1 self.depth_limit) }
         ensures order { IfOk result (λ p. p.breadth_first ≡ self.breadth_first) }
+        ensures took { IfOk result (λ p. (last : N × DefaultSpawn) × TookFirst N.named (λ s t u. Unit {0}) p self.stack_size (self.names, self.spawn) p.workers last) }
         ensures cause { IfErr result (λ e. fixed_text e ≡ None) }
     {
-        let Some(id) = ids.next(rt) else {
-            return Err(ThreadPoolBuildError::NoIds);
-        };
-        let num_threads = self.worker_count();
-        let made = new_pool(
-            rt,
-            alloc,
-            id,
-            num_threads,
-            self.depth_limit,
-            self.steal_seed,
-            self.breadth_first,
-            self.handlers,
-        );
-        let Ok((pool, deques, hold)) = made else {
-            return Err(ThreadPoolBuildError::NoRoom);
-        };
-        let (stack_size, mut names, mut workers) = (self.stack_size, self.names, Vec::new(alloc));
-        match start_workers(
-            rt,
-            alloc,
-            &pool,
-            deques,
-            stack_size,
-            &mut names,
-            &mut workers,
-        ) {
-            Ok(()) => Ok(ThreadPool::new(pool, hold, workers)),
-            Err(Unstarted { error, worker }) => {
-                end_workers(rt, &pool, hold, workers);
-                if let Some(worker) = worker {
-                    worker.join(rt);
-                }
-                Err(error)
-            }
-        }
+        build_pool(self, rt, alloc, ids)
     }
 }
 
-// Starts a thread in this way, which begins with these four values. They stand in types of their own: the checker finds
-// of each that it may be sent, and not of a type that holds two. Each of the functions below puts one of these types in
-// its place, since it finds that where little else stands beside the value.
-fn start_with<
-    S: Drop + Send + 'static,
-    N: Drop + Send + 'static,
-    D: Drop + Send + 'static,
-    K: Drop + Send + 'static,
-    R: Threads + Wait + Copy + Send + 'static,
-    F: FnOnce(&R, S, N, D, K) + Drop + Send + 'static,
->(
-    rt: &R,
-    how: thread::Builder,
-    shared: S,
-    faults: N,
-    deque: D,
-    seats: K,
-    begin: F,
-) -> Result<JoinHandle<()>, ThreadPoolBuildError>
-    requires { F.IsAlwaysCallable begin }
-    ensures cause { IfErr result (λ e. fixed_text e ≡ None) }
-{
-    let theirs = *rt;
-    let started = how.spawn(rt, move || begin(&theirs, shared, faults, deque, seats));
-    started.map_err(ThreadPoolBuildError::IOError)
-}
-
-// A worker's own deque.
-trait OwnDeque<J: JobKind>: Drop {
-    // It itself.
-    fn into_deque(self) -> WorkerDeque<Task<J>>;
-}
-
-impl<J: JobKind> OwnDeque<J> for WorkerDeque<Task<J>> {
-    fn into_deque(self) -> WorkerDeque<Task<J>> {
-        self
+impl<J: JobKind, N, F> ThreadPoolBuilder<J, N, CustomSpawn<F>> {
+    /// Makes the pool as `build` without a spawn handler does, but that each thread is started by the handler.
+    pub fn build<R: Threads + Wait + Copy + Send + 'static>(
+        self,
+        rt: &R,
+        alloc: Global,
+        ids: &Ids,
+    ) -> Result<ThreadPool<J>, ThreadPoolBuildError>
+    where
+        N: ThreadNames,
+        F: Drop,
+        CustomSpawn<F>: ThreadSpawn<ThreadBuilder<J>>,
+        J: Job + Send + Sync + 'static,
+        J::Tag: Send + Sync + 'static,
+        J::Output: Send + Sync + 'static,
+        J::Fault: Send + Sync + 'static,
+        J::Handler: Send + Sync + 'static,
+        requires names { N.can_name self.names }
+        requires spawn { bound-14.can_spawn self.spawn }
+        ensures workers { IfOk result (λ p. p.workers ≡ workers_of self) }
+        ensures depth { IfOk result (λ p. p.depth_limit ≡ max 1 self.depth_limit) }
+        ensures order { IfOk result (λ p. p.breadth_first ≡ self.breadth_first) }
+        ensures took { IfOk result (λ p. (last : N × F) × TookFirst N.named bound-14.took p self.stack_size (self.names, self.spawn) p.workers last) }
+        ensures cause { IfErr result (λ e. fixed_text e ≡ None) }
+    {
+        build_pool(self, rt, alloc, ids)
     }
 }
 
-// A worker's seats.
-trait OwnSeats: Drop {
-    // They themselves.
-    fn into_seats(self) -> WorkerSeats;
-}
-
-impl OwnSeats for WorkerSeats {
-    fn into_seats(self) -> WorkerSeats {
-        self
-    }
-}
-
-// A share of the faults of a pool's detached jobs, and of its handlers.
-trait OwnFaults<F, H>: Drop {
-    // It itself.
-    fn into_faults(self) -> SharedFaults<F, H>;
-}
-
-impl<F: Drop, H: PoolHandler<F>> OwnFaults<F, H> for SharedFaults<F, H> {
-    fn into_faults(self) -> SharedFaults<F, H> {
-        self
-    }
-}
-
-// Starts the thread of this worker, which begins with what the pool's threads share, and with these faults, this deque
-// and these seats.
-fn start_sharing<
+// Makes the pool of these settings.
+fn build_pool<
     J,
-    N: OwnFaults<J::Fault, J::Handler> + Send + 'static,
-    D: OwnDeque<J> + Send + 'static,
-    K: OwnSeats + Send + 'static,
+    N: ThreadNames,
+    S: ThreadSpawn<ThreadBuilder<J>>,
     R: Threads + Wait + Copy + Send + 'static,
 >(
+    builder: ThreadPoolBuilder<J, N, S>,
     rt: &R,
     alloc: Global,
-    worker: WorkerId,
-    how: thread::Builder,
-    shared: Arc<Registry<Task<J>>, Global>,
-    faults: N,
-    deque: D,
-    seats: K,
-) -> Result<JoinHandle<()>, ThreadPoolBuildError>
+    ids: &Ids,
+) -> Result<ThreadPool<J>, ThreadPoolBuildError>
 where
     J: Job + Send + Sync + 'static,
     J::Tag: Send + Sync + 'static,
     J::Output: Send + Sync + 'static,
     J::Fault: Send + Sync + 'static,
     J::Handler: Send + Sync + 'static,
+    requires names { N.can_name builder.names }
+    requires spawn { S.can_spawn builder.spawn }
+    ensures workers { IfOk result (λ p. p.workers ≡ workers_of builder) }
+    ensures depth { IfOk result (λ p. p.depth_limit ≡ max 1 builder.depth_limit) }
+    ensures order { IfOk result (λ p. p.breadth_first ≡ builder.breadth_first) }
+    ensures took { IfOk result (λ p. (last : N × S) × TookFirst N.named S.took p builder.stack_size (builder.names, builder.spawn) p.workers last) }
     ensures cause { IfErr result (λ e. fixed_text e ≡ None) }
 {
-    start_with(
-        rt,
-        how,
-        shared,
-        faults,
-        deque,
-        seats,
-        move |rt, shared, faults, deque, seats| {
-            let kit = WorkerKit::new(deque.into_deque(), seats.into_seats());
-            let WorkerId { pool, index } = worker;
-            let faults = faults.into_faults();
-            if let Some(thread) = ThreadBuilder::new(pool, index, shared, faults, kit) {
-                thread.run(rt, alloc);
-            }
-        },
-    )
-}
-
-// Starts the thread of this worker, whose own deque this is.
-fn start_with_deque<
-    J,
-    N: OwnFaults<J::Fault, J::Handler> + Send + 'static,
-    K: OwnSeats + Send + 'static,
-    R: Threads + Wait + Copy + Send + 'static,
->(
-    rt: &R,
-    alloc: Global,
-    worker: WorkerId,
-    how: thread::Builder,
-    shared: Arc<Registry<Task<J>>, Global>,
-    faults: N,
-    deque: WorkerDeque<Task<J>>,
-    seats: K,
-) -> Result<JoinHandle<()>, ThreadPoolBuildError>
-where
-    J: Job + Send + Sync + 'static,
-    J::Tag: Send + Sync + 'static,
-    J::Output: Send + Sync + 'static,
-    J::Fault: Send + Sync + 'static,
-    J::Handler: Send + Sync + 'static,
-    ensures cause { IfErr result (λ e. fixed_text e ≡ None) }
-{
-    start_sharing(rt, alloc, worker, how, shared, faults, deque, seats)
-}
-
-// How to start a thread with so many bytes of stack, and this name. Refused `IOError` where the name holds a NUL.
-fn way_to_start(
-    stack_size: Option<usize>,
-    name: Option<String>,
-) -> Result<thread::Builder, ThreadPoolBuildError>
-    ensures cause { IfErr result (λ e. fixed_text e ≡ None) }
-{
-    let how = match stack_size {
-        Some(size) => thread::Builder::new().stack_size(size),
-        None => thread::Builder::new(),
+    let Some(id) = ids.next(rt) else {
+        return Err(ThreadPoolBuildError::NoIds);
     };
-    match name {
-        Some(name) => Ok(how.name(given_name(name)?)),
-        None => Ok(how),
-    }
-}
-
-// Starts the thread of the worker with this index in this way, which begins with this.
-fn start_worker<J, R: Threads + Wait + Copy + Send + 'static>(
-    rt: &R,
-    alloc: Global,
-    pool: &PoolRef<J>,
-    index: usize,
-    kit: WorkerKit<Task<J>>,
-    how: thread::Builder,
-) -> Result<JoinHandle<()>, ThreadPoolBuildError>
-where
-    J: Job + Send + Sync + 'static,
-    J::Tag: Send + Sync + 'static,
-    J::Output: Send + Sync + 'static,
-    J::Fault: Send + Sync + 'static,
-    J::Handler: Send + Sync + 'static,
-    ensures cause { IfErr result (λ e. fixed_text e ≡ None) }
-{
-    let (Ok(shared), Ok(faults)) = (shared_of(pool), faults_of(pool)) else {
+    let num_threads = builder.worker_count();
+    let made = new_pool(
+        rt,
+        alloc,
+        id,
+        num_threads,
+        builder.depth_limit,
+        builder.steal_seed,
+        builder.breadth_first,
+        builder.handlers,
+    );
+    let Ok((pool, deques, hold)) = made else {
         return Err(ThreadPoolBuildError::NoRoom);
     };
-    let worker = WorkerId {
-        pool: pool.id(),
-        index,
-    };
-    let (deque, seats) = kit.into_parts();
-    start_with_deque(rt, alloc, worker, how, shared, faults, deque, seats)
+    let (mut names, mut spawn, mut workers) = (builder.names, builder.spawn, Vec::new(alloc));
+    let stack_size = builder.stack_size;
+    match start_workers(
+        rt,
+        alloc,
+        &pool,
+        deques,
+        stack_size,
+        &mut names,
+        &mut spawn,
+        &mut workers,
+    ) {
+        Ok(()) => Ok(ThreadPool::of(pool, hold, workers)),
+        Err(Unstarted { error, worker }) => {
+            end_workers(rt, &pool, hold, workers);
+            if let Some(worker) = worker {
+                worker.join(rt);
+            }
+            Err(error)
+        }
+    }
 }
 
 // Why not all workers were started, and a worker that was, but whose handle found no room beside the others'. It leaves
@@ -496,8 +434,14 @@ struct Unstarted {
     worker: Option<JoinHandle<()>>,
 }
 
-// Starts the thread of the worker with this index, which has the name that it is given here.
-fn start_named<J, N: ThreadNames, R: Threads + Wait + Copy + Send + 'static>(
+// Has the thread of the worker with this index started, which has the name that it is given here. Answers its handle,
+// if there is one.
+fn start_named<
+    J,
+    N: ThreadNames,
+    S: ThreadSpawn<ThreadBuilder<J>>,
+    R: Threads + Wait + Copy + Send + 'static,
+>(
     rt: &R,
     alloc: Global,
     pool: &PoolRef<J>,
@@ -505,33 +449,54 @@ fn start_named<J, N: ThreadNames, R: Threads + Wait + Copy + Send + 'static>(
     kit: WorkerKit<Task<J>>,
     stack_size: Option<usize>,
     names: &mut N,
-) -> Result<JoinHandle<()>, ThreadPoolBuildError>
+    spawn: &mut S,
+) -> Result<Option<JoinHandle<()>>, ThreadPoolBuildError>
 where
     J: Job + Send + Sync + 'static,
     J::Tag: Send + Sync + 'static,
     J::Output: Send + Sync + 'static,
     J::Fault: Send + Sync + 'static,
     J::Handler: Send + Sync + 'static,
-    requires { N.can_name names.old }
+    requires index { index < pool.now.workers }
+    requires names { N.can_name names.old }
+    requires spawn { S.can_spawn spawn.old }
     ensures names { N.can_name names.new }
+    ensures spawn { S.can_spawn spawn.new }
+    ensures handle { IfOk result (λ h. is_some h ≡ S.hands_back) }
+    ensures took { IfOk result (λ h. Took N.named S.took pool.now stack_size (names.old, spawn.old) index (names.new, spawn.new)) }
     ensures cause { IfErr result (λ e. fixed_text e ≡ None) }
 {
     let Ok(name) = names.name_of(index) else {
         return Err(ThreadPoolBuildError::NoRoom);
     };
-    let how = way_to_start(stack_size, name)?;
-    start_worker(rt, alloc, pool, index, kit, how)
+    let Ok(thread) = ThreadBuilder::new(alloc, pool, index, name, stack_size, kit) else {
+        return Err(ThreadPoolBuildError::NoRoom);
+    };
+    match spawn.spawn(thread) {
+        Ok(Some(thread)) => match start_thread(rt, alloc, thread) {
+            Ok(handle) => Ok(Some(handle)),
+            Err(error) => Err(ThreadPoolBuildError::IOError(error)),
+        },
+        Ok(None) => Ok(None),
+        Err(error) => Err(ThreadPoolBuildError::IOError(error)),
+    }
 }
 
-// Starts the threads of the workers whose deques these are, by index, and adds them to those that were started.
-fn start_workers<J, N: ThreadNames, R: Threads + Wait + Copy + Send + 'static>(
+// Has the threads of the workers whose deques these are started, by index, and adds them to those that were started.
+fn start_workers<
+    J,
+    N: ThreadNames,
+    S: ThreadSpawn<ThreadBuilder<J>>,
+    R: Threads + Wait + Copy + Send + 'static,
+>(
     rt: &R,
     alloc: Global,
     pool: &PoolRef<J>,
     deques: Vec<WorkerKit<Task<J>>>,
     stack_size: Option<usize>,
     names: &mut N,
-    workers: &mut Vec<JoinHandle<()>>,
+    spawn: &mut S,
+    workers: &mut Vec<Option<JoinHandle<()>>>,
 ) -> Result<(), Unstarted>
 where
     J: Job + Send + Sync + 'static,
@@ -539,17 +504,22 @@ where
     J::Output: Send + Sync + 'static,
     J::Fault: Send + Sync + 'static,
     J::Handler: Send + Sync + 'static,
-    requires { N.can_name names.old }
+    requires deques { length deques.items ≡ pool.now.workers }
+    requires names { N.can_name names.old }
+    requires spawn { S.can_spawn spawn.old }
+    requires handles { All (λ h. is_some h ≡ S.hands_back) workers.old.items }
+    ensures handles { All (λ h. is_some h ≡ S.hands_back) workers.new.items }
     ensures started { IfOk result (λ _. length workers.new.items ≡ length workers.old.items + length deques.items) }
+    ensures took { IfOk result (λ _. TookFirst N.named S.took pool.now stack_size (names.old, spawn.old) (length deques.items) (names.new, spawn.new)) }
     ensures cause { IfErr result (λ u. fixed_text u.error ≡ None) }
 {
     for (index, deque) in deques.into_iter().enumerate() {
-        match start_named(rt, alloc, pool, index, deque, stack_size, names) {
+        match start_named(rt, alloc, pool, index, deque, stack_size, names, spawn) {
             Ok(worker) => {
                 if let Err(AllocFailed { value: worker }) = workers.push(worker) {
                     return Err(Unstarted {
                         error: ThreadPoolBuildError::NoRoom,
-                        worker: Some(worker),
+                        worker,
                     });
                 }
             }

@@ -1,9 +1,9 @@
 //! What the threads of a pool's workers are called.
-ghost use Rattle.rayon_core.specs.Texts.{fixed_text, has_nul};
+ghost use Rattle.rayon_core.specs.Texts.{has_nul};
 ghost use Rattle.std.specs.IoError.{error_kind};
-ghost use Rattle.std.specs.Prelude.{◌≡◌, IfOk, IfErr, None, true, false};
+ghost use Rattle.std.specs.Prelude.{◌≡◌, ℕ, List, Option, IfOk, IfErr, Ok, Some, None, option_map, true, false};
+ghost use Rattle.std.specs.String.{string_bytes};
 
-use crate::build_error::ThreadPoolBuildError;
 use std::alloc::AllocError;
 use std::io::{Error, ErrorKind};
 use std::marker::Model;
@@ -13,10 +13,15 @@ pub trait ThreadNames: Drop {
     /// Whether it may be asked for a name, now and after each name.
     ghost can_name: { Self → Type 0 };
 
+    /// What a call for this index that answers Ok may do: the bytes of the name that it answers, or none; and what
+    /// names the threads after it, from what it was before.
+    ghost named: { Self → ℕ → Option (List ℕ) → Self → Type 0 };
+
     /// The name of the thread of the worker with this index; None where it has none. Refused for want of memory.
     fn name_of(&mut self, index: usize) -> Result<Option<String>, AllocError>
         requires { can_name self.old }
-        ensures { can_name self.new };
+        ensures again { can_name self.new }
+        ensures named { IfOk result (λ n. named self.old index (option_map string_bytes n) self.new) };
 }
 
 /// No thread has a name of its own.
@@ -25,6 +30,8 @@ pub struct NoNames;
 
 impl ThreadNames for NoNames {
     ghost can_name = { λ n. Unit {0} };
+
+    ghost named = { λ n i name m. name ≡ None };
 
     fn name_of(&mut self, _index: usize) -> Result<Option<String>, AllocError> {
         Ok(None)
@@ -55,22 +62,22 @@ impl<F> NamesBy<F> {
 impl<F: FnMut(usize) -> Result<String, AllocError> + Drop> ThreadNames for NamesBy<F> {
     ghost can_name = { λ n. F.IsAlwaysCallable n };
 
+    ghost named = { λ n i name m. (text : _) × (name ≡ Some (string_bytes text)) × F.step n i (Ok text) m };
+
     fn name_of(&mut self, index: usize) -> Result<Option<String>, AllocError> {
         let name = (self.name)(index)?;
         Ok(Some(name))
     }
 }
 
-// The name, where the system can give it to a thread. Refused `IOError` of the kind `InvalidInput` where it holds a
-// NUL.
-pub(crate) fn given_name(name: String) -> Result<String, ThreadPoolBuildError>
+// The name, where the system can give it to a thread. Refused `InvalidInput` where it holds a NUL.
+pub(crate) fn given_name(name: String) -> Result<String, Error>
     ensures kept { IfOk result (λ n. (n ≡ name) × (has_nul name ≡ false)) }
-    ensures refused { IfErr result (λ e. (has_nul name ≡ true) × ((x : _) × (e ≡ ThreadPoolBuildError.IOError x) × (error_kind x ≡ ErrorKind.InvalidInput))) }
-    ensures cause { IfErr result (λ e. fixed_text e ≡ None) }
+    ensures refused { IfErr result (λ e. (has_nul name ≡ true) × (error_kind e ≡ ErrorKind.InvalidInput)) }
 {
     if name.as_bytes().contains(&0) {
         let text = "thread name may not contain interior null bytes";
-        return Err(ThreadPoolBuildError::IOError(Error::new(ErrorKind::InvalidInput, text)));
+        return Err(Error::new(ErrorKind::InvalidInput, text));
     }
     Ok(name)
 }

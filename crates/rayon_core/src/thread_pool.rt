@@ -14,7 +14,8 @@ use std::thread::{JoinHandle, Threads};
 pub struct ThreadPool<J: JobKind> {
     pool: PoolRef<J>,
     hold: PoolHold,
-    workers: Vec<JoinHandle<()>>,
+    // Of each worker the handle of its thread, or None where a spawn handler started it.
+    workers: Vec<Option<JoinHandle<()>>>,
 }
 
 impl<J: JobKind> Model for ThreadPool<J> {
@@ -39,11 +40,11 @@ impl<J: JobKind> Deref for ThreadPool<J> {
 }
 
 impl<J: JobKind> ThreadPool<J> {
-    // The pool whose workers were started, each in a thread of its own.
-    pub(crate) fn new(
+    // The pool whose workers were started, each in a thread of its own, by their handles.
+    pub(crate) fn of(
         pool: PoolRef<J>,
         hold: PoolHold,
-        workers: Vec<JoinHandle<()>>,
+        workers: Vec<Option<JoinHandle<()>>>,
     ) -> ThreadPool<J>
         requires workers { length workers.items ≡ pool.workers }
         requires own { hold ≡ pool.count }
@@ -86,7 +87,7 @@ impl<J: JobKind> ThreadPool<J> {
 
     /// Ends the pool as `end` does, and joins the workers' threads, which leave once nothing holds the pool. So this
     /// waits for detached jobs and for the waiting calls that other threads have made, and no thread of the pool is
-    /// left.
+    /// left. Threads that a spawn handler has started it does not join: that is up to whoever has their handles.
     pub fn end_and_join<R: Threads + Wait>(self, rt: &R) {
         let ThreadPool {
             pool,
@@ -133,17 +134,20 @@ impl<J: JobKind> DetachedPool<J> {
     }
 }
 
-// Gives up the unit of the terminate count that stands for this pool's value, and joins these workers.
+// Gives up the unit of the terminate count that stands for this pool's value, and joins those of the workers' threads
+// of which there is a handle.
 pub(crate) fn end_workers<J: JobKind, R: Threads + Wait>(
     rt: &R,
     pool: &PoolRef<J>,
     hold: PoolHold,
-    workers: Vec<JoinHandle<()>>,
+    workers: Vec<Option<JoinHandle<()>>>,
 )
     requires { hold ≡ pool.now.count }
 {
     end_pool(rt, pool, hold);
     for worker in workers {
-        worker.join(rt);
+        if let Some(worker) = worker {
+            worker.join(rt);
+        }
     }
 }

@@ -16,7 +16,7 @@ pub fn builder_of_environment<J: JobKind, R: Env + Threads>(
     rt: &R,
     alloc: Global,
 ) -> Result<ThreadPoolBuilder<J>, Refusal>
-    ensures rest { IfOk result (λ b. b ≡ record { num_threads = 0; first = b.first; second = b.second; processors = b.processors; stack_size = None; depth_limit = 2 ^ 64 - 1; steal_seed = 0; breadth_first = false; panic_handler = None; start_handler = None; exit_handler = None; names = b.names }) }
+    ensures rest { IfOk result (λ b. b ≡ record { num_threads = 0; first = b.first; second = b.second; processors = b.processors; stack_size = None; depth_limit = 2 ^ 64 - 1; steal_seed = 0; breadth_first = false; panic_handler = None; start_handler = None; exit_handler = None; names = b.names; spawn = b.spawn }) }
     ensures refused { IfErr result (λ r. r ≡ Refusal.NoRoom) }
 {
     let first = word_of(rt, alloc, "RAYON_NUM_THREADS")?;

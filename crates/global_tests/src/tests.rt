@@ -1,10 +1,12 @@
 //! The tests.
 use crate::deed::{Deed, once};
 use rayon_core::latch::LockLatch;
-use rayon_core::{EndAfter, Ids, PoolRef, Refusal, ThreadPoolBuildError, ThreadPoolBuilder};
+use rayon_core::{
+    Configuration, EndAfter, Ids, PoolRef, Refusal, ThreadPoolBuildError, ThreadPoolBuilder,
+};
 use rayon_global::{
     GlobalPool, Outside, builder_of_environment, current_num_threads, current_thread_index,
-    install, join, join_context, max_num_threads, spawn, spawn_fifo,
+    initialize, install, join, join_context, max_num_threads, spawn, spawn_fifo,
 };
 use std::alloc::Global;
 use std::process::Abort;
@@ -138,6 +140,28 @@ fn second_build_is_refused(rt: HostRuntime) -> Result<(), Fail> {
     let others = Ids::new();
     let _first = others.next(&rt);
     assert_eq!(rt; ids.next(&rt), others.next(&rt));
+    Ok(())
+}
+
+// So it is by its older name.
+#[test]
+fn second_initialization_is_refused(rt: HostRuntime) -> Result<(), Fail> {
+    let (alloc, ids, global) = (rt.alloc(), Ids::new(), GlobalPool::new());
+    let (made, again) = global.end_after(&rt, |global| {
+        let three = Configuration::<Deed>::new().num_threads(3);
+        let made = initialize(&rt, alloc, global, three, &ids);
+        let made = made.expect(&rt, "a pool").current_num_threads();
+        let four = Configuration::<Deed>::new().num_threads(4);
+        let again = initialize(&rt, alloc, global, four, &ids).err();
+        (made, again)
+    });
+    assert_eq!(rt; made, 3);
+    assert!(rt;
+        matches!(
+            &again,
+            Some(ThreadPoolBuildError::GlobalPoolAlreadyInitialized)
+        )
+    );
     Ok(())
 }
 

@@ -5,8 +5,8 @@ ghost use Rattle.std.specs.Prelude.{◌≡◌, max, None, Ok, IfOk, IfErr};
 
 use crate::outside::Outside;
 use rayon_core::{
-    DetachedPool, EndAfter, Ids, Job, JobKind, PoolRef, ThreadNames, ThreadPoolBuildError,
-    ThreadPoolBuilder,
+    Configuration, DetachedPool, EndAfter, Ids, Job, JobKind, PoolRef, ThreadNames,
+    ThreadPoolBuildError, ThreadPoolBuilder,
 };
 use std::alloc::Global;
 use std::sync::{Mutex, OnceLock, Wait};
@@ -157,4 +157,27 @@ impl<J: JobKind> EndAfter for GlobalPool<J> {
     fn end_lent<R: Threads + Wait>(self, rt: &R) {
         self.end(rt);
     }
+}
+
+/// Makes the global pool by these settings, as `GlobalPool::build_global`, whose older name this is: it answers and is
+/// refused as that is. As in rayon-core it is out of use, and there it answers no pool.
+pub fn initialize<'p, J: JobKind, N: ThreadNames, R: Threads + Wait + Copy + Send + 'static>(
+    rt: &R,
+    alloc: Global,
+    global: &'p GlobalPool<J>,
+    configuration: Configuration<J, N>,
+    ids: &Ids,
+) -> Result<Outside<'p, J>, ThreadPoolBuildError>
+where
+    J: Job + Send + Sync + 'static,
+    J::Tag: Send + Sync + 'static,
+    J::Output: Send + Sync + 'static,
+    J::Fault: Send + Sync + 'static,
+    J::Handler: Send + Sync + 'static,
+    requires names { N.can_name configuration.names }
+    ensures workers { IfOk result (λ o. o.workers ≡ workers_of configuration) }
+    ensures depth { IfOk result (λ o. o.depth_limit ≡ max 1 configuration.depth_limit) }
+    ensures order { IfOk result (λ o. o.breadth_first ≡ configuration.breadth_first) }
+{
+    global.build_global(rt, alloc, ids, configuration.into_builder())
 }

@@ -15,7 +15,7 @@ pub use calls::{
     spawn_fifo,
 };
 pub use current::{Current, Stands};
-pub use global_pool::GlobalPool;
+pub use global_pool::{GlobalPool, initialize};
 pub use outside::Outside;
 pub use rayon_core::max_num_threads;
 pub use scopes::{

@@ -5,11 +5,12 @@
 //! places sends it. Nothing here starts a thread: the threads of the running pool go by the same
 //! tables.
 //!
-//! This crate only gives the names of the crates below it: `rayon_machine_places` has the places and their acts, and
-//! `rayon_machine_world` the world that makes the steps. What holds in every run is said and proved by
-//! `rayon_machine_laws`, `rayon_machine_sleep_laws` and `rayon_machine_orders`, of the same tables; nothing that runs
-//! stands on these three.
+//! This crate only gives the names of the crates below it: `rayon_machine_places` has the places and their acts,
+//! `rayon_machine_runs` the events and what a world keeps, and `rayon_machine_world` the world that makes the steps.
+//! What holds in every run is said and proved by `rayon_machine_laws`, `rayon_machine_sleep_laws`,
+//! `rayon_machine_orders` and `rayon_machine_step_laws`, of the same tables; nothing that runs stands on these four.
 #![tactic(auto)]
 
-pub use rayon_machine_places::{act, error, event, moves, place, shape, state, table};
+pub use rayon_machine_places::{act, moves, place, shape, table};
+pub use rayon_machine_runs::{error, event, state};
 pub use rayon_machine_world::{readers, world};

@@ -21,13 +21,15 @@ use Rattle.rayon_machine_places.specs.declared.act.Act.TheVariants.{PushOwn, Fif
 use Rattle.rayon_machine_places.specs.declared.act.Act.TheVariants.{StorePiece as PutPiece, Idle}
 use Rattle.rayon_machine_places.specs.declared.act.Seen.{Seen}
 use Rattle.rayon_machine_places.specs.declared.act.Seen.TheVariants.{Done, Refused, Yes, No, Task, Missing, Handed}
-use Rattle.rayon_machine_places.specs.declared.state.Letter.{Letter}
-use Rattle.rayon_machine_places.specs.declared.state.Letter.TheVariants.{Set as IsSet}
+use Rattle.rayon_machine_runs.specs.declared.state.Letter.{Letter}
+use Rattle.rayon_machine_runs.specs.declared.state.Letter.TheVariants.{Set as IsSet}
 use Rattle.rayon_machine_places.specs.Places.{act_of, begin_act, is_member, plan_pool, plan_job, plan_book}
-use Rattle.rayon_machine_places.specs.World.{Shape, Counts, Part, effect, is_own, is_free_lock, is_held_by, is_open, popped, take_cast, pop_injector, at_job, begun, with_letter, raised, all_raised, lowered, all_lowered, lock_wait, found}
-use Rattle.rayon_machine_places.specs.declared.state.Slot.{Slot as SlotState}
-use Rattle.rayon_machine_places.specs.declared.state.Whereabouts.{Whereabouts}
-use Rattle.rayon_machine_places.specs.declared.state.Whereabouts.TheVariants.{Running}
+use Rattle.rayon_machine_runs.specs.World.{Shape, Part, effect, is_free_lock, is_held_by, is_open, popped, take_cast, pop_injector, at_job, begun, with_letter, raised, all_raised, lowered, all_lowered, lock_wait, found}
+use Rattle.rayon_machine_places.specs.Sleepers.{Counts}
+use Rattle.rayon_machine_places.specs.Targets.{is_own}
+use Rattle.rayon_machine_runs.specs.declared.state.Slot.{Slot as SlotState}
+use Rattle.rayon_machine_runs.specs.declared.state.Whereabouts.{Whereabouts}
+use Rattle.rayon_machine_runs.specs.declared.state.Whereabouts.TheVariants.{Running}
 use Rattle.rayon_machine_places.specs.declared.place.Ending.TheVariants.{Fine}
 use Rattle.rayon_machine_laws.proofs.Letters.{sleepy_keeps, asleep_keeps, wake_keeps, set_keeps}
 use Rattle.rayon_machine_laws.proofs.Frame.{if_cond, if_some_all, if_some_and, if_some_map, out_sees, undo_sees}

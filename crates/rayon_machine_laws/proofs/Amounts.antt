@@ -40,8 +40,8 @@ use Rattle.rayon_machine_places.specs.declared.place.Wait.{Wait}
 use Rattle.rayon_machine_places.specs.declared.place.Settling.{Settling}
 use Rattle.rayon_machine_places.specs.Places.{own_pool, own_index, plan_pool, plan_job, after_wait, finish, walk, settle, after_set, after_found, after_news, after_raise, set_call, next_victim, not_self, after_failure, next_steal, next_yield, next_of, is_taken, taken_number}
 use Rattle.rayon_machine_places.specs.Places.{settle_count, after_push, begin_feed, withdraw, plan_book, begin_cast, end_cast, ends_count, after_slot}
-use Rattle.rayon_machine_places.specs.World.{Stack}
-use Rattle.rayon_machine_places.specs.Steps.{after_move, is_piece}
+use Rattle.rayon_machine_runs.specs.World.{Stack}
+use Rattle.rayon_machine_runs.specs.Steps.{after_move, is_piece}
 use Rattle.rayon_machine_laws.specs.Once.{one}
 pub use Rattle.rayon_machine_laws.specs.Counted.{values, values_in, all_values}
 use Rattle.rayon_machine_laws.specs.Shares.{share_target, share_rest, share_then, share_of, share, shares_in, shares}

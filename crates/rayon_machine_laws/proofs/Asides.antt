@@ -20,15 +20,16 @@ use Rattle.rayon_machine_places.specs.declared.place.Then.TheVariants.{Resume}
 use Rattle.rayon_machine_places.specs.declared.place.Place.{Place}
 use Rattle.rayon_machine_places.specs.declared.place.Place.TheVariants.{ProbeWorking, PickVictim, StealFrom, PopInjected, JoinProbe, YieldPop, YieldPick, YieldSteal, YieldPopInjected, LocalPop, Run, RaiseCount, GrowCall, PushJob, LowerCount, FirstSide, SecondSide, AtOnce, Free}
 use Rattle.rayon_machine_places.specs.declared.place.Place.TheVariants.{Stopped, AddToFifo, PushToken, TakeFromFifo, RaiseForAll, PushForAll, LowerForAll, GrowScope, OpenSlot, ScopeBody, OpenForAll, CloseForAll, GrowCast, DealPieces}
-use Rattle.rayon_machine_places.specs.declared.event.Event.{Event}
-use Rattle.rayon_machine_places.specs.declared.event.Event.TheVariants.{Go, From, Refuse, Miss, End, Spawn, Fifo, Install, Join, Yield, YieldLocal, EndPool, Cast, Scope as OpenScope, IntoSpawn, IntoFifo, IntoCast, Broadcast}
+use Rattle.rayon_machine_runs.specs.declared.event.Event.{Event}
+use Rattle.rayon_machine_runs.specs.declared.event.Event.TheVariants.{Go, From, Refuse, Miss, End, Spawn, Fifo, Install, Join, Yield, YieldLocal, EndPool, Cast, Scope as OpenScope, IntoSpawn, IntoFifo, IntoCast, Broadcast}
 use Rattle.rayon_machine_places.specs.declared.shape.PoolShape.{PoolShape}
 use Rattle.rayon_machine_places.specs.declared.place.Wait.{Wait}
-use Rattle.rayon_machine_places.specs.declared.state.Call.{Call}
+use Rattle.rayon_machine_runs.specs.declared.state.Call.{Call}
 use Rattle.rayon_machine_places.specs.Places.{own_pool, own_index, is_member, undo, next_victim, not_self, act_of, next_steal, next_yield, goes_on, is_free, after_push, withdraw, end_cast, plan_book}
-use Rattle.rayon_machine_places.specs.World.{Pool, Stack, World, target_pool, target_worker, target_call}
-use Rattle.rayon_machine_places.specs.Steps.{put, put_stack, with_stack, after_choice, after_refusal, can_miss, after_miss, after_close, after_end, after_call, is_pool, new_call, after_spawn, after_fifo, after_send, after_install, after_join, after_yield, after_end_pool, step}
-use Rattle.rayon_machine_places.specs.Steps.{after_cast, after_scope, after_into, holds, after_into_fifo, after_into_cast, after_broadcast, new_gathering}
+use Rattle.rayon_machine_runs.specs.World.{Pool, Stack, World}
+use Rattle.rayon_machine_places.specs.Targets.{target_pool, target_worker, target_call}
+use Rattle.rayon_machine_runs.specs.Steps.{put, put_stack, with_stack, after_choice, after_refusal, can_miss, after_miss, after_close, after_end, after_call, is_pool, new_call, after_spawn, after_fifo, after_send, after_install, after_join, after_yield, after_end_pool, step}
+use Rattle.rayon_machine_runs.specs.Steps.{after_cast, after_scope, after_into, holds, after_into_fifo, after_into_cast, after_broadcast, new_gathering}
 use Rattle.rayon_machine_laws.proofs.Attend.{is_owing}
 use Rattle.rayon_machine_laws.proofs.Events.{free_frame}
 use Rattle.rayon_machine_laws.proofs.Frame.{fifo_cases, and_parts, if_some_map, if_cond, acted_keeps, into_cases, into_fifo_cases, into_cast_cases}

@@ -13,8 +13,10 @@ use Rattle.rayon_machine_places.specs.declared.act.Seen.{Seen}
 use Rattle.rayon_machine_places.specs.declared.shape.PoolShape.{PoolShape}
 use Rattle.rayon_machine_places.specs.declared.place.Walk.{Walk}
 use Rattle.rayon_machine_places.specs.Places.{same_party, walk, act_of}
-use Rattle.rayon_machine_places.specs.World.{Shape, Pool, Stack, World, Counts, Part, target_pool, pop_injector, effect}
-use Rattle.rayon_machine_places.specs.Steps.{after_move}
+use Rattle.rayon_machine_runs.specs.World.{Shape, Pool, Stack, World, Part, pop_injector, effect}
+use Rattle.rayon_machine_places.specs.Sleepers.{Counts}
+use Rattle.rayon_machine_places.specs.Targets.{target_pool}
+use Rattle.rayon_machine_runs.specs.Steps.{after_move}
 use Rattle.rayon_machine_laws.specs.Committed.{is_committed}
 use Rattle.rayon_machine_laws.specs.Attended.{is_filled, HasLooker, has_pushed, owes_wake, HasWaker, IsInjectorAttended}
 use Rattle.rayon_machine_laws.proofs.Acts.{Injector, writes_at, keeps}

@@ -30,11 +30,11 @@ use Rattle.rayon_machine_places.specs.declared.place.Target.TheVariants.{Termina
 use Rattle.rayon_machine_places.specs.declared.place.Place.{Place}
 use Rattle.rayon_machine_places.specs.declared.place.Place.TheVariants.{ProbeWorking, LookAtInjector, BlockSelf, LeaveSearch, PushJob, TellNews, LockToWake, WakeWorker, UnlockWoken, WakeSettled, Free, Stopped}
 use Rattle.rayon_machine_places.specs.declared.act.Seen.{Seen}
-use Rattle.rayon_machine_places.specs.declared.event.Event.{Event}
+use Rattle.rayon_machine_runs.specs.declared.event.Event.{Event}
 use Rattle.rayon_machine_places.specs.Places.{same_party, fresh}
-use Rattle.rayon_machine_places.specs.World.{Shape, Stack, World, Part}
-use Rattle.rayon_machine_places.specs.Steps.{step}
-use Rattle.rayon_machine_places.specs.Runs.{first_place, start, IsRun}
+use Rattle.rayon_machine_runs.specs.World.{Shape, Stack, World, Part}
+use Rattle.rayon_machine_runs.specs.Steps.{step}
+use Rattle.rayon_machine_runs.specs.Runs.{first_place, start, IsRun}
 use Rattle.rayon_machine_laws.specs.Committed.{is_blocking}
 use Rattle.rayon_machine_laws.specs.Attended.{is_filled}
 use Rattle.rayon_machine_laws.proofs.Asides.{is_calm, Aside, steps_aside}

@@ -31,15 +31,15 @@ use Rattle.rayon_machine_places.specs.declared.place.Move.{Move}
 use Rattle.rayon_machine_places.specs.declared.place.Move.TheVariants.{Stay, Enter, StartRun, Back, HandBack, Discard, HandIn, Mark, HandAllBack}
 use Rattle.rayon_machine_places.specs.declared.act.Seen.{Seen}
 use Rattle.rayon_machine_places.specs.declared.act.Seen.TheVariants.{Done, Yes, Task, Jec, Word, Start, Wakes, Begun, Found, Handed, Opened}
-use Rattle.rayon_machine_places.specs.declared.state.Whereabouts.{Whereabouts}
-use Rattle.rayon_machine_places.specs.declared.state.Whereabouts.TheVariants.{HandedBack, Spent}
-use Rattle.rayon_machine_places.specs.declared.state.Job.{Job}
+use Rattle.rayon_machine_runs.specs.declared.state.Whereabouts.{Whereabouts}
+use Rattle.rayon_machine_runs.specs.declared.state.Whereabouts.TheVariants.{HandedBack, Spent}
+use Rattle.rayon_machine_runs.specs.declared.state.Job.{Job}
 use Rattle.rayon_machine_places.specs.declared.shape.PoolShape.{PoolShape}
 use Rattle.rayon_machine_places.specs.declared.place.Wait.{Wait}
 use Rattle.rayon_machine_places.specs.declared.place.Settling.{Settling}
 use Rattle.rayon_machine_places.specs.Places.{own_pool, own_index, plan_pool, plan_job, after_wait, finish, walk, settle, after_set, after_found, after_news, goes_on, after_raise, set_call, next_victim, not_self, after_failure, next_steal, next_yield, next_of, is_taken, settle_count, after_push, begin_feed, ends_count, begin_cast, end_cast, after_slot, withdraw, count_book, plan_book, taken_number}
-use Rattle.rayon_machine_places.specs.World.{Stack, at_job, begun}
-use Rattle.rayon_machine_places.specs.Steps.{put, after_move, jobs_after, after_close, is_piece, mark_pieces, marked}
+use Rattle.rayon_machine_runs.specs.World.{Stack, at_job, begun}
+use Rattle.rayon_machine_runs.specs.Steps.{put, after_move, jobs_after, after_close, is_piece, mark_pieces, marked}
 use Rattle.rayon_machine_laws.specs.Once.{one}
 use Rattle.rayon_machine_laws.specs.Shares.{share_of}
 use Rattle.rayon_machine_laws.proofs.Hands.{hand_plan, hand_rest, hand_then, hand, held_in, held, is_gather}

@@ -40,7 +40,7 @@ use Rattle.rayon_machine_places.specs.declared.place.Wait.{Wait}
 use Rattle.rayon_machine_places.specs.declared.place.Settling.{Settling}
 use Rattle.rayon_machine_places.specs.Places.{own_pool, own_index, plan_pool, after_wait, finish, walk, settle, after_set, after_found, after_news, goes_on, after_raise, set_call, next_victim, not_self, after_failure, next_steal, next_yield, next_of, is_taken, settle_count}
 use Rattle.rayon_machine_places.specs.Places.{after_push, begin_feed, ends_count, begin_cast, end_cast, after_slot, withdraw, count_book, plan_book, taken_number}
-use Rattle.rayon_machine_places.specs.Steps.{after_move, after_close}
+use Rattle.rayon_machine_runs.specs.Steps.{after_move, after_close}
 pub use Rattle.rayon_machine_laws.specs.Counted.{in_scope, plan_body, body_then, body, bodies_in, all_bodies}
 
 -- what is kept where a move leads

@@ -2,7 +2,7 @@
 --
 -- `BoundsHold` says: a piece is a detached job, and stands where its own worker alone may have it (`is_own_place`,
 -- specs/Once). What a call queues else is bound to no worker (`MadeAs`).
-use Rattle.rayon_machine_places.specs.declared.state.Scope.{Scope}
+use Rattle.rayon_machine_runs.specs.declared.state.Scope.{Scope}
 use Rattle.rayon_machine_places.specs.declared.place.Gathering.{Gathering}
 use Rattle.rayon_machine_places.specs.declared.place.Count.TheVariants.{OfPool, OfScope, OfCast}
 use Rattle.rayon_machine_places.specs.declared.place.Count.{Count}
@@ -27,15 +27,17 @@ use Rattle.rayon_machine_places.specs.declared.place.Move.TheVariants.{Stay, Ent
 use Rattle.rayon_machine_places.specs.declared.act.Act.TheVariants.{PushInj, PushOwn}
 use Rattle.rayon_machine_places.specs.declared.act.Seen.{Seen}
 use Rattle.rayon_machine_places.specs.declared.act.Seen.TheVariants.{Done, Missing}
-use Rattle.rayon_machine_places.specs.declared.event.Event.{Event}
-use Rattle.rayon_machine_places.specs.declared.event.Event.TheVariants.{Go, From, Refuse, Miss, End, Spawn, Fifo, Cast, Install, Join, Scope as OpenScope, IntoSpawn, Yield, YieldLocal, EndPool, IntoFifo, IntoCast, Broadcast}
-use Rattle.rayon_machine_places.specs.declared.state.Whereabouts.{Whereabouts}
-use Rattle.rayon_machine_places.specs.declared.state.Whereabouts.TheVariants.{Made, InDeque, Injected, InFifo, InCast, Retaken, Running, Over, HandedBack, Spent}
-use Rattle.rayon_machine_places.specs.declared.state.Job.{Job}
+use Rattle.rayon_machine_runs.specs.declared.event.Event.{Event}
+use Rattle.rayon_machine_runs.specs.declared.event.Event.TheVariants.{Go, From, Refuse, Miss, End, Spawn, Fifo, Cast, Install, Join, Scope as OpenScope, IntoSpawn, Yield, YieldLocal, EndPool, IntoFifo, IntoCast, Broadcast}
+use Rattle.rayon_machine_runs.specs.declared.state.Whereabouts.{Whereabouts}
+use Rattle.rayon_machine_runs.specs.declared.state.Whereabouts.TheVariants.{Made, InDeque, Injected, InFifo, InCast, Retaken, Running, Over, HandedBack, Spent}
+use Rattle.rayon_machine_runs.specs.declared.state.Job.{Job}
 use Rattle.rayon_machine_places.specs.Places.{same_party, is_member, is_free, is_refusable, plan_book, plan_job, plan_pool, act_of, next_of, own_pool, own_index, count_book, count_kind}
-use Rattle.rayon_machine_places.specs.World.{Shape, Stack, World, Part, Counts, counts_at, effect, target_pool, target_worker, target_call, at_job, begun, popped, take_cast, pop_injector, own_of, own_left, head_of, last_of, but_first, but_last, or_none, is_open}
-use Rattle.rayon_machine_places.specs.Steps.{put, part_of, jobs_after, is_piece, mark_pieces, marked, put_pieces, new_piece, new_job, after_choice, after_miss, after_end, after_spawn, after_cast, after_send, after_install, after_join, after_scope, after_into, after_yield, can_miss, holds, is_pool, step, after_deal, after_feed, after_broadcast, after_into_fifo, after_into_cast, after_enter, new_whole}
-use Rattle.rayon_machine_places.specs.Runs.{IsRun, start}
+use Rattle.rayon_machine_runs.specs.World.{Shape, Stack, World, Part, counts_at, effect, at_job, begun, popped, take_cast, pop_injector, own_of, own_left, head_of, last_of, but_first, but_last, is_open}
+use Rattle.rayon_machine_places.specs.Sleepers.{Counts}
+use Rattle.rayon_machine_places.specs.Targets.{target_pool, target_worker, target_call, or_none}
+use Rattle.rayon_machine_runs.specs.Steps.{put, part_of, jobs_after, is_piece, mark_pieces, marked, put_pieces, new_piece, new_job, after_choice, after_miss, after_end, after_spawn, after_cast, after_send, after_install, after_join, after_scope, after_into, after_yield, can_miss, holds, is_pool, step, after_deal, after_feed, after_broadcast, after_into_fifo, after_into_cast, after_enter, new_whole}
+use Rattle.rayon_machine_runs.specs.Runs.{IsRun, start}
 use Rattle.rayon_machine_laws.specs.Once.{IsOnce, IsBound, is_own_place, in_deque, in_injector, in_fifo, in_cast, is_with, one, times, held, held_in}
 use Rattle.rayon_machine_laws.proofs.Frame.{and_parts, fifo_cases, into_cases, if_cond, if_some_and, if_some_map, acted_keeps, out_sees, undo_sees, put_same, same_index, same_party_true, after_kind, after_bound, into_fifo_cases, into_cast_cases}
 use Rattle.rayon_machine_laws.proofs.Ties.{job_at, outcome, result}

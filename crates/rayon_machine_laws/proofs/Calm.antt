@@ -13,8 +13,10 @@ use Rattle.rayon_machine_places.specs.declared.act.Seen.TheVariants.{Yes}
 use Rattle.rayon_machine_places.specs.declared.shape.PoolShape.{PoolShape}
 use Rattle.rayon_machine_places.specs.declared.place.Settling.{Settling}
 use Rattle.rayon_machine_places.specs.Places.{same_party, after_set, act_of, next_of}
-use Rattle.rayon_machine_places.specs.World.{Shape, Seat, Stack, World, Counts, counts_at, Part, target_pool, target_worker, target_call, effect}
-use Rattle.rayon_machine_places.specs.Steps.{part_of, after_move}
+use Rattle.rayon_machine_runs.specs.World.{Shape, Seat, Stack, World, counts_at, Part, effect}
+use Rattle.rayon_machine_places.specs.Sleepers.{Counts}
+use Rattle.rayon_machine_places.specs.Targets.{target_pool, target_worker, target_call}
+use Rattle.rayon_machine_runs.specs.Steps.{part_of, after_move}
 use Rattle.rayon_machine_laws.specs.Committed.{is_blocking, is_committed}
 use Rattle.rayon_machine_laws.proofs.Acts.{Inactive, Blocked, writes_at, keeps}
 use Rattle.rayon_machine_laws.proofs.Frame.{same_index, same_party_true, if_some_all, if_some_and, if_some_map}

@@ -21,15 +21,15 @@ use Rattle.rayon_machine_places.specs.declared.place.Then.TheVariants.{Resume}
 use Rattle.rayon_machine_places.specs.declared.place.Place.{Place}
 use Rattle.rayon_machine_places.specs.declared.place.Place.TheVariants.{PickVictim, StealFrom, YieldPick, YieldSteal, YieldPop, LocalPop, Run, RaiseCount, LowerCount, GrowCall, GrowScope, GrowCast, OpenSlot, CloseSlot, OpenForAll, PushJob, PushForAll, CloseForAll, LowerForAll}
 use Rattle.rayon_machine_places.specs.declared.place.Place.TheVariants.{PushToken, TakeFromFifo, AddToFifo, DealPieces, PopInjected, YieldPopInjected}
-use Rattle.rayon_machine_places.specs.declared.event.Event.{Event}
-use Rattle.rayon_machine_places.specs.declared.event.Event.TheVariants.{Go, From, Refuse, Miss, End, Spawn, Fifo, Cast, Install, Join, Scope as OpenScope, IntoSpawn, IntoFifo, IntoCast, Broadcast, Yield, YieldLocal, EndPool}
-use Rattle.rayon_machine_places.specs.declared.state.Scope.{Scope}
-use Rattle.rayon_machine_places.specs.declared.state.Whereabouts.TheVariants.{Over}
+use Rattle.rayon_machine_runs.specs.declared.event.Event.{Event}
+use Rattle.rayon_machine_runs.specs.declared.event.Event.TheVariants.{Go, From, Refuse, Miss, End, Spawn, Fifo, Cast, Install, Join, Scope as OpenScope, IntoSpawn, IntoFifo, IntoCast, Broadcast, Yield, YieldLocal, EndPool}
+use Rattle.rayon_machine_runs.specs.declared.state.Scope.{Scope}
+use Rattle.rayon_machine_runs.specs.declared.state.Whereabouts.TheVariants.{Over}
 use Rattle.rayon_machine_places.specs.declared.shape.PoolShape.{PoolShape}
 use Rattle.rayon_machine_places.specs.Places.{after_push, count_book, end_cast, is_free, is_member, next_steal, next_victim, next_yield, not_self, own_index, own_pool, plan_book, undo, withdraw}
-use Rattle.rayon_machine_places.specs.Steps.{after_call, after_close, after_join, after_end_pool, after_deal, after_end, after_feed, after_gather, after_miss, after_choice, after_refusal, after_send, after_enter, after_yield, can_miss, holds, is_pool, new_call, new_job, put}
-use Rattle.rayon_machine_places.specs.Steps.{put_stack, step, with_stack}
-use Rattle.rayon_machine_places.specs.World.{World, at_job}
+use Rattle.rayon_machine_runs.specs.Steps.{after_call, after_close, after_join, after_end_pool, after_deal, after_end, after_feed, after_gather, after_miss, after_choice, after_refusal, after_send, after_enter, after_yield, can_miss, holds, is_pool, new_call, new_job, put}
+use Rattle.rayon_machine_runs.specs.Steps.{put_stack, step, with_stack}
+use Rattle.rayon_machine_runs.specs.World.{World, at_job}
 use Rattle.rayon_machine_laws.proofs.Frame.{and_parts, fifo_cases, if_cond, into_cases, into_fifo_cases, into_cast_cases}
 
 -- how a party turns from one place to another with no act: it chooses a victim, a steal of it misses, or it is refused

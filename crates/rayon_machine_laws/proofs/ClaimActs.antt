@@ -22,14 +22,16 @@ use Rattle.rayon_machine_places.specs.declared.place.Place.TheVariants.{LocalTak
 use Rattle.rayon_machine_places.specs.declared.place.Place.TheVariants.{GrowCast, DealPieces, StorePiece}
 use Rattle.rayon_machine_places.specs.declared.act.Seen.{Seen}
 use Rattle.rayon_machine_places.specs.declared.act.Seen.TheVariants.{Yes, No, Task, Missing, Begun, Found, Handed}
-use Rattle.rayon_machine_places.specs.declared.state.Letter.{Letter}
-use Rattle.rayon_machine_places.specs.declared.state.Letter.TheVariants.{Sleeping, Set as IsSet}
+use Rattle.rayon_machine_runs.specs.declared.state.Letter.{Letter}
+use Rattle.rayon_machine_runs.specs.declared.state.Letter.TheVariants.{Sleeping, Set as IsSet}
 use Rattle.rayon_machine_places.specs.declared.place.OpenCall.{OpenCall}
 use Rattle.rayon_machine_places.specs.declared.place.Settling.{Settling}
 use Rattle.rayon_machine_places.specs.Places.{latch_of, act_of, next_of, taken_number, plan_job, plan_pool, is_member, plan_book, count_book}
-use Rattle.rayon_machine_places.specs.World.{Shape, Stack, World, Counts, Part, head_of, own_of, or_none, target_job, Outcome, letter, with_letter, set_latch, found, popped, take_cast, pop_injector, lowered, effect, is_open, but_last, at_job, taken_as, count_in, put_body}
-use Rattle.rayon_machine_places.specs.World.{same_list, put_list, all_lowered, pool_less, call_less, put_piece, with_piece, told}
-use Rattle.rayon_machine_places.specs.Steps.{put, part_of, after}
+use Rattle.rayon_machine_runs.specs.World.{Shape, Stack, World, Part, head_of, own_of, target_job, Outcome, letter, with_letter, set_latch, found, popped, take_cast, pop_injector, lowered, effect, is_open, but_last, at_job, count_in, put_body}
+use Rattle.rayon_machine_places.specs.Sleepers.{Counts}
+use Rattle.rayon_machine_places.specs.Targets.{or_none, taken_as}
+use Rattle.rayon_machine_runs.specs.World.{same_list, put_list, all_lowered, pool_less, call_less, put_piece, with_piece, told}
+use Rattle.rayon_machine_runs.specs.Steps.{put, part_of, after}
 use Rattle.rayon_machine_laws.proofs.Acts.{Cell, CallLetter, SeatLetter, writes_at, keeps}
 use Rattle.rayon_machine_laws.proofs.Frame.{either, if_some_all, if_some_map, put_same, after_kind, after_pool, out_sees, undo_sees, if_cond, after_bound, book_sees, same_list_true}
 use Rattle.rayon_machine_laws.proofs.Hands.{held}
@@ -40,10 +42,10 @@ use Rattle.rayon_machine_laws.proofs.Placed.{Kept, same_number}
 use Rattle.rayon_machine_laws.proofs.PlacedRuns.{JobsHold}
 use Rattle.rayon_machine_laws.proofs.Later.{Later, Static}
 use Rattle.rayon_machine_laws.proofs.Letters.{sleepy_keeps, asleep_keeps, wake_keeps}
-use Rattle.rayon_machine_places.specs.declared.state.Job.{Job}
+use Rattle.rayon_machine_runs.specs.declared.state.Job.{Job}
 use Rattle.rayon_machine_places.specs.declared.place.JobKind.{JobKind}
 use Rattle.rayon_machine_places.specs.declared.place.Taken.{Taken}
-use Rattle.rayon_machine_places.specs.declared.state.Whereabouts.TheVariants.{Running}
+use Rattle.rayon_machine_runs.specs.declared.state.Whereabouts.TheVariants.{Running}
 use Rattle.rayon_machine_places.specs.declared.place.JobKind.TheVariants.{TokenOf}
 
 -- what an act keeps of a world's fixed things

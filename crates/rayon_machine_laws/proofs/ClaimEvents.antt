@@ -16,12 +16,12 @@ use Rattle.rayon_machine_places.specs.declared.place.Place.TheVariants.{PickVict
 use Rattle.rayon_machine_places.specs.declared.place.Place.TheVariants.{OpenForAll, GrowCast, DealPieces, StorePiece}
 use Rattle.rayon_machine_places.specs.declared.act.Seen.{Seen}
 use Rattle.rayon_machine_places.specs.declared.act.Seen.TheVariants.{Refused, Missing, Start}
-use Rattle.rayon_machine_places.specs.declared.state.Whereabouts.TheVariants.{Over}
+use Rattle.rayon_machine_runs.specs.declared.state.Whereabouts.TheVariants.{Over}
 use Rattle.rayon_machine_places.specs.declared.shape.PoolShape.{PoolShape}
 use Rattle.rayon_machine_places.specs.Places.{own_pool, next_of, goes_on, is_free}
-use Rattle.rayon_machine_places.specs.World.{Pool, Stack, World, at_job}
-use Rattle.rayon_machine_places.specs.Steps.{put, put_stack, after_move, after_choice, after_refusal, can_miss, after_miss, after_resume, after_close, after_call, is_pool, after_yield, after_end_pool}
-use Rattle.rayon_machine_places.specs.Readers.{is_done}
+use Rattle.rayon_machine_runs.specs.World.{Pool, Stack, World, at_job}
+use Rattle.rayon_machine_runs.specs.Steps.{put, put_stack, after_move, after_choice, after_refusal, can_miss, after_miss, after_resume, after_close, after_call, is_pool, after_yield, after_end_pool}
+use Rattle.rayon_machine_runs.specs.Readers.{is_done}
 use Rattle.rayon_machine_laws.proofs.Frame.{and_parts, if_cond, put_same, put_new}
 use Rattle.rayon_machine_laws.proofs.Hands.{held}
 use Rattle.rayon_machine_laws.proofs.PlacedEvents.{Advance}

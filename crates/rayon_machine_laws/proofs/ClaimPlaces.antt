@@ -32,12 +32,12 @@ use Rattle.rayon_machine_places.specs.declared.place.Place.TheVariants.{LookAtCa
 use Rattle.rayon_machine_places.specs.declared.place.Place.TheVariants.{LockToWake, WakeWorker, UnlockWoken, WaitForLock, TakeResult, LowerCount, StoreResult, SetLatch, LockToSettle, WakeSettled, UnlockSettled, SetLockLatch, FirstSide, SecondSide, AtOnce, AddToFifo, LookForToken}
 use Rattle.rayon_machine_places.specs.declared.place.Place.TheVariants.{PushToken, TakeFromFifo, RaiseForAll, PushForAll, LowerForAll, GrowScope, OpenSlot, CloseSlot, StoreBody, StoreSlot, ScopeBody, OpenForAll, CloseForAll, GrowCast, DealPieces, StorePiece}
 use Rattle.rayon_machine_places.specs.declared.place.Move.TheVariants.{Enter}
-use Rattle.rayon_machine_places.specs.declared.state.Whereabouts.TheVariants.{Over, Spent}
+use Rattle.rayon_machine_runs.specs.declared.state.Whereabouts.TheVariants.{Over, Spent}
 use Rattle.rayon_machine_places.specs.declared.place.OpenCall.{OpenCall}
 use Rattle.rayon_machine_places.specs.Places.{own_pool, own_index, plan_job, plan_count, count_kind, count_book}
-use Rattle.rayon_machine_places.specs.World.{World}
-use Rattle.rayon_machine_places.specs.Steps.{is_piece}
-use Rattle.rayon_machine_places.specs.Readers.{is_done}
+use Rattle.rayon_machine_runs.specs.World.{World}
+use Rattle.rayon_machine_runs.specs.Steps.{is_piece}
+use Rattle.rayon_machine_runs.specs.Readers.{is_done}
 use Rattle.rayon_machine_laws.specs.Counted.{is_detached, is_scoped}
 use Rattle.rayon_machine_laws.proofs.Located.{is_left}
 

@@ -43,9 +43,9 @@ use Rattle.rayon_machine_places.specs.declared.place.Wait.{Wait}
 use Rattle.rayon_machine_places.specs.declared.place.Settling.{Settling}
 use Rattle.rayon_machine_places.specs.Places.{own_pool, own_index, plan_pool, after_wait, finish, walk, settle, after_set, after_found, after_news, after_raise, undo, set_call, next_victim, not_self, after_failure, next_steal, next_yield, next_of, is_taken, taken_number}
 use Rattle.rayon_machine_places.specs.Places.{after_push, settle_count, count_kind, count_book, begin_feed, withdraw, after_slot, begin_cast, end_cast, ends_count}
-use Rattle.rayon_machine_places.specs.World.{Stack, World}
-use Rattle.rayon_machine_places.specs.Steps.{after_move}
-use Rattle.rayon_machine_places.specs.Readers.{is_done}
+use Rattle.rayon_machine_runs.specs.World.{Stack, World}
+use Rattle.rayon_machine_runs.specs.Steps.{after_move}
+use Rattle.rayon_machine_runs.specs.Readers.{is_done}
 pub use Rattle.rayon_machine_laws.specs.Counted.{is_detached, is_scoped}
 pub use Rattle.rayon_machine_laws.proofs.ClaimPlaces.{call_kind, is_body, call_undetached, call_unscoped, body_unscoped, is_part, counts_detached, Opened, MadeAs, Tied, PartOf, KnownCount, PieceAs, SaysPieces, SaysCast, SaysGather, PieceEnds, EndsAs, FirstEnds, SaysTarget, Left}
 pub use Rattle.rayon_machine_laws.proofs.ClaimPlaces.{Taking, Spendable, Awaited, SaysFound, SaysPlan, SaysQueue, SaysSlot, SaysTold, queue_plan, SaysTaken, SaysThen, SaysOwner, SaysEntry, SaysBody, SaysShare, IsStored, IsReady, SaysLatch, IsZero, SaysRun, Says}

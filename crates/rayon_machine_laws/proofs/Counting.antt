@@ -2,7 +2,8 @@
 use Rattle.std.proofs.Common.{arith, refl, subst, inl, inr, ◌≢◌}
 use Rattle.std.specs.Prelude.{ℕ, zero, suc, Bool, true, false, not, ◌+◌, ◌-◌, ◌==◌, ◌<◌, ◌≤◌, nat_lt, if◌then◌else◌, ◌≡◌, ◌⊎◌}
 use Rattle.std.proofs.lemmas.Bool.{eqb-true, ltb-false}
-use Rattle.rayon_machine_places.specs.World.{count_below, Counts, wakes_for_one}
+use Rattle.rayon_machine_runs.specs.World.{count_below}
+use Rattle.rayon_machine_places.specs.Sleepers.{Counts, wakes_for_one}
 
 -- if one passes, the count is above 0
 pub count_some : (n : ℕ) (f : ℕ → Bool) (i : ℕ) → i < n → f i ≡ true → 0 < count_below n f

@@ -22,14 +22,16 @@ use Rattle.rayon_machine_places.specs.declared.act.Act.{Act}
 use Rattle.rayon_machine_places.specs.declared.act.Act.TheVariants.{PushInj, PushOwn}
 use Rattle.rayon_machine_places.specs.declared.act.Seen.{Seen}
 use Rattle.rayon_machine_places.specs.declared.act.Seen.TheVariants.{Yes}
-use Rattle.rayon_machine_places.specs.declared.event.Event.{Event}
+use Rattle.rayon_machine_runs.specs.declared.event.Event.{Event}
 use Rattle.rayon_machine_places.specs.declared.shape.PoolShape.{PoolShape}
 use Rattle.rayon_machine_places.specs.declared.place.Wait.{Wait}
 use Rattle.rayon_machine_places.specs.declared.place.Settling.{Settling}
 use Rattle.rayon_machine_places.specs.Places.{same_party, own_pool, own_index, is_member, plan_pool, plan_job, fresh, awaits, finish, after_set, act_of, next_of, plan_book}
-use Rattle.rayon_machine_places.specs.World.{Shape, Stack, World, Counts, Part, target_pool, target_worker, head_of, last_of, but_first, own_of, own_left, popped, effect}
-use Rattle.rayon_machine_places.specs.Steps.{after_move, step}
-use Rattle.rayon_machine_places.specs.Runs.{first_place, start, IsRun}
+use Rattle.rayon_machine_runs.specs.World.{Shape, Stack, World, Part, head_of, last_of, but_first, own_of, own_left, popped, effect}
+use Rattle.rayon_machine_places.specs.Sleepers.{Counts}
+use Rattle.rayon_machine_places.specs.Targets.{target_pool, target_worker}
+use Rattle.rayon_machine_runs.specs.Steps.{after_move, step}
+use Rattle.rayon_machine_runs.specs.Runs.{first_place, start, IsRun}
 use Rattle.rayon_machine_laws.specs.Attended.{IsEmptyHanded}
 use Rattle.rayon_machine_laws.proofs.Acts.{Own, writes_at, keeps}
 use Rattle.rayon_machine_laws.proofs.Asides.{Aside, steps_aside}

@@ -5,8 +5,8 @@
 use Rattle.rayon_machine_places.specs.declared.place.JobKind.TheVariants.{WholeOf}
 use Rattle.rayon_machine_places.specs.declared.place.JobKind.{JobKind}
 use Rattle.rayon_machine_laws.specs.Counted.{has_body, ScopeEnded}
-use Rattle.rayon_machine_places.specs.Steps.{is_piece}
-use Rattle.rayon_machine_places.specs.Readers.{is_done}
+use Rattle.rayon_machine_runs.specs.Steps.{is_piece}
+use Rattle.rayon_machine_runs.specs.Readers.{is_done}
 use Rattle.rayon_machine_laws.proofs.Scoping.{ScopesHold, count_over}
 use Rattle.rayon_machine_laws.proofs.Enters.{EntersHold}
 use Rattle.rayon_machine_laws.proofs.Spawned.{scope_ended}
@@ -22,9 +22,9 @@ use Rattle.rayon_machine_places.specs.declared.place.Then.{Then}
 use Rattle.rayon_machine_places.specs.declared.place.Then.TheVariants.{Answers, Missing, Ran, GiveBack}
 use Rattle.rayon_machine_places.specs.declared.place.Place.{Place}
 use Rattle.rayon_machine_places.specs.declared.place.Place.TheVariants.{TakeResult, LowerCount, SetLatch, LockToSettle, WakeSettled, UnlockSettled, SetLockLatch}
-use Rattle.rayon_machine_places.specs.declared.state.Whereabouts.TheVariants.{Over}
+use Rattle.rayon_machine_runs.specs.declared.state.Whereabouts.TheVariants.{Over}
 use Rattle.rayon_machine_places.specs.declared.place.OpenCall.{OpenCall}
-use Rattle.rayon_machine_places.specs.World.{World}
+use Rattle.rayon_machine_runs.specs.World.{World}
 use Rattle.rayon_machine_laws.specs.Once.{one, times}
 use Rattle.rayon_machine_laws.specs.Latch.{IsLatched, PieceEnded}
 use Rattle.rayon_machine_laws.specs.End.{HasEnded, SideEnded, SideFine, answered, IsVerdict, follows, IsEnd, IsUntouched, AllJobs, IsRefused, Takes}

@@ -27,17 +27,19 @@ use Rattle.rayon_machine_places.specs.declared.place.Move.{Move}
 use Rattle.rayon_machine_places.specs.declared.place.Move.TheVariants.{Stay, Enter as EnterAbove, StartRun, Back, HandBack, Discard, HandIn, Mark, HandAllBack}
 use Rattle.rayon_machine_places.specs.declared.act.Seen.{Seen}
 use Rattle.rayon_machine_places.specs.declared.act.Seen.TheVariants.{Refused, Missing, Start}
-use Rattle.rayon_machine_places.specs.declared.event.Event.{Event}
-use Rattle.rayon_machine_places.specs.declared.event.Event.TheVariants.{Go, From, Refuse, Miss, End, Spawn, Fifo, Install, Join, Yield, YieldLocal, EndPool, Cast, Scope as OpenScope, IntoSpawn, IntoFifo, IntoCast, Broadcast}
-use Rattle.rayon_machine_places.specs.declared.state.Whereabouts.{Whereabouts}
-use Rattle.rayon_machine_places.specs.declared.state.Whereabouts.TheVariants.{HandedBack, Spent, Over}
-use Rattle.rayon_machine_places.specs.declared.state.Job.{Job}
-use Rattle.rayon_machine_places.specs.declared.state.Scope.{Scope}
+use Rattle.rayon_machine_runs.specs.declared.event.Event.{Event}
+use Rattle.rayon_machine_runs.specs.declared.event.Event.TheVariants.{Go, From, Refuse, Miss, End, Spawn, Fifo, Install, Join, Yield, YieldLocal, EndPool, Cast, Scope as OpenScope, IntoSpawn, IntoFifo, IntoCast, Broadcast}
+use Rattle.rayon_machine_runs.specs.declared.state.Whereabouts.{Whereabouts}
+use Rattle.rayon_machine_runs.specs.declared.state.Whereabouts.TheVariants.{HandedBack, Spent, Over}
+use Rattle.rayon_machine_runs.specs.declared.state.Job.{Job}
+use Rattle.rayon_machine_runs.specs.declared.state.Scope.{Scope}
 use Rattle.rayon_machine_places.specs.Places.{same_party, act_of, next_of, own_pool, is_free, is_member, holds_scope, goes_on, fresh, count_kind, count_book}
-use Rattle.rayon_machine_places.specs.World.{Shape, Stack, World, Counts, Part, at_job, begun, effect, counts_at, target_pool, target_worker, target_call}
-use Rattle.rayon_machine_places.specs.Steps.{put, put_stack, after_move, after_call, after_close, after_resume, jobs_after, after_choice, after_miss, after_end, after_send, after_join, after_yield, after_feed, after_enter, seeing, step, mark_pieces, marked, put_pieces}
-use Rattle.rayon_machine_places.specs.Steps.{after_gather, new_job, new_piece, new_whole, is_piece, is_pool, holds, holds_in}
-use Rattle.rayon_machine_places.specs.Runs.{start, first_place, IsRun}
+use Rattle.rayon_machine_runs.specs.World.{Shape, Stack, World, Part, at_job, begun, effect, counts_at}
+use Rattle.rayon_machine_places.specs.Sleepers.{Counts}
+use Rattle.rayon_machine_places.specs.Targets.{target_pool, target_worker, target_call}
+use Rattle.rayon_machine_runs.specs.Steps.{put, put_stack, after_move, after_call, after_close, after_resume, jobs_after, after_choice, after_miss, after_end, after_send, after_join, after_yield, after_feed, after_enter, seeing, step, mark_pieces, marked, put_pieces}
+use Rattle.rayon_machine_runs.specs.Steps.{after_gather, new_job, new_piece, new_whole, is_piece, is_pool, holds, holds_in}
+use Rattle.rayon_machine_runs.specs.Runs.{start, first_place, IsRun}
 use Rattle.rayon_machine_laws.specs.Once.{one}
 use Rattle.rayon_machine_laws.proofs.Lists.{is_settled, Onward, act_on}
 use Rattle.rayon_machine_laws.proofs.Seats.{is_frame}

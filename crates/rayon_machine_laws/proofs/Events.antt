@@ -14,8 +14,8 @@ use Rattle.rayon_machine_places.specs.declared.place.JobKind.TheVariants.{Detach
 use Rattle.rayon_machine_places.specs.declared.place.Target.TheVariants.{Termination}
 use Rattle.rayon_machine_places.specs.declared.place.Place.{Place}
 use Rattle.rayon_machine_places.specs.declared.place.Place.TheVariants.{ProbeWorking, YieldPop, LocalPop, Run, FirstSide, Free, Stopped, RaiseCount, RaiseForAll, LowerCount}
-use Rattle.rayon_machine_places.specs.declared.event.Event.{Event}
-use Rattle.rayon_machine_places.specs.declared.event.Event.TheVariants.{Go}
+use Rattle.rayon_machine_runs.specs.declared.event.Event.{Event}
+use Rattle.rayon_machine_runs.specs.declared.event.Event.TheVariants.{Go}
 use Rattle.rayon_machine_places.specs.declared.place.Share.TheVariants.{PoolValue}
 use Rattle.rayon_machine_places.specs.declared.place.Then.TheVariants.{Resume}
 use Rattle.rayon_machine_laws.proofs.Cases.{Turn, NoScope, turn_from, turn_to, is_free_at, is_act, event_cases}
@@ -23,9 +23,10 @@ use Rattle.rayon_machine_laws.proofs.Frame.{if_some_map, same_party_true}
 use Rattle.rayon_machine_laws.proofs.Seats.{Out, SeatOk, frame_out, is_frame, mode}
 use Rattle.rayon_machine_laws.proofs.Ties.{AllFrames, SeatsOk, StackOk, go_seats, job_at, outcome, result}
 use Rattle.rayon_machine_places.specs.Places.{act_of, fresh, goes_on, is_free, same_party}
-use Rattle.rayon_machine_places.specs.Runs.{IsRun, start}
-use Rattle.rayon_machine_places.specs.Steps.{after_outcome, after_call, after_close, put_stack, after_resume, after_send, step}
-use Rattle.rayon_machine_places.specs.World.{Outcome, Seat, Shape, Stack, World, target_call, target_pool, target_worker}
+use Rattle.rayon_machine_runs.specs.Runs.{IsRun, start}
+use Rattle.rayon_machine_runs.specs.Steps.{after_outcome, after_call, after_close, put_stack, after_resume, after_send, step}
+use Rattle.rayon_machine_runs.specs.World.{Outcome, Seat, Shape, Stack, World}
+use Rattle.rayon_machine_places.specs.Targets.{target_call, target_pool, target_worker}
 
 --
 -- Every event but `Go` moves one party, and changes no seat: it is a `Moved`. To show that each step

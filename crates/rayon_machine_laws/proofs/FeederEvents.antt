@@ -6,7 +6,7 @@ use Rattle.std.specs.Prelude.{ℕ, Bool, true, false, ◌&&◌, ◌+◌, ◌==�
 use Rattle.rayon_machine_places.specs.declared.place.Then.TheVariants.{Resume}
 use Rattle.rayon_machine_places.specs.declared.place.Feeding.{Feeding}
 use Rattle.rayon_machine_places.specs.declared.place.Place.{Place}
-use Rattle.rayon_machine_places.specs.declared.state.Whereabouts.TheVariants.{Over}
+use Rattle.rayon_machine_runs.specs.declared.state.Whereabouts.TheVariants.{Over}
 use Rattle.rayon_machine_laws.proofs.Cases.{Turn, NoToken, turn_from, turn_to, is_act, is_free_at, event_cases}
 use Rattle.rayon_machine_laws.proofs.Tops.{FramesOk}
 use Rattle.rayon_machine_laws.proofs.Ties.{AllFrames, outcome, job_at}
@@ -14,18 +14,19 @@ use Rattle.rayon_machine_places.specs.declared.place.Place.TheVariants.{RaiseCou
 use Rattle.rayon_machine_places.specs.declared.place.Ending.{Ending}
 use Rattle.rayon_machine_places.specs.declared.place.JobKind.{JobKind}
 use Rattle.rayon_machine_places.specs.declared.place.Party.{Party}
-use Rattle.rayon_machine_places.specs.World.{Shape, World, Stack, target_pool, target_call, target_worker, at_job}
+use Rattle.rayon_machine_runs.specs.World.{Shape, World, Stack, at_job}
+use Rattle.rayon_machine_places.specs.Targets.{target_pool, target_call, target_worker}
 use Rattle.rayon_machine_laws.proofs.Seats.{is_frame}
 use Rattle.rayon_machine_places.specs.Places.{is_free, goes_on, same_party, act_of, fresh, is_member}
-use Rattle.rayon_machine_places.specs.declared.event.Event.{Event}
+use Rattle.rayon_machine_runs.specs.declared.event.Event.{Event}
 use Rattle.rayon_machine_places.specs.declared.place.Plan.TheVariants.{Feed, Here, Fork, Send, Detach, Open, Enter, Gather}
 use Rattle.rayon_machine_places.specs.declared.place.Party.TheVariants.{Worker, Caller}
-use Rattle.rayon_machine_places.specs.Steps.{after_close, after_send, put_stack, with_stack, after_call, step, after_feed, put}
-use Rattle.rayon_machine_places.specs.Runs.{first_place, start, IsRun}
+use Rattle.rayon_machine_runs.specs.Steps.{after_close, after_send, put_stack, with_stack, after_call, step, after_feed, put}
+use Rattle.rayon_machine_runs.specs.Runs.{first_place, start, IsRun}
 use Rattle.rayon_machine_places.specs.declared.place.JobKind.TheVariants.{Detached, Stored, Direct, TokenOf, Scoped, BodyOf, PieceOf, WholeOf}
 use Rattle.rayon_machine_laws.proofs.Frame.{same_party_true, if_some_map, acted_keeps, if_some_and}
 use Rattle.rayon_machine_places.specs.declared.place.Target.TheVariants.{Termination}
-use Rattle.rayon_machine_places.specs.declared.event.Event.TheVariants.{Go}
+use Rattle.rayon_machine_runs.specs.declared.event.Event.TheVariants.{Go}
 use Rattle.rayon_machine_laws.proofs.Events.{run_keeps}
 use Rattle.rayon_machine_places.specs.declared.place.Ending.TheVariants.{Fault, Fine}
 use Rattle.rayon_machine_places.specs.declared.place.Share.TheVariants.{PoolValue}

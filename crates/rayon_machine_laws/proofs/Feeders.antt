@@ -16,7 +16,9 @@ use Rattle.rayon_machine_places.specs.declared.place.Place.TheVariants.{AddToFif
 use Rattle.rayon_machine_places.specs.declared.place.Move.{Move}
 use Rattle.rayon_machine_places.specs.declared.place.Party.{Party}
 use Rattle.rayon_machine_places.specs.declared.shape.PoolShape.{PoolShape}
-use Rattle.rayon_machine_places.specs.World.{but_last, Shape, World, last_of, Counts, Part, Seat, Stack, is_open, left_by, effect, fifo_back, fifo_first, fifo_in, fifo_out, fifo_undo, put_list, same_list, pop_injector, popped, take_cast, target_pool, counts_at, empty_seen, or_none, target_worker}
+use Rattle.rayon_machine_runs.specs.World.{but_last, Shape, World, last_of, Part, Seat, Stack, is_open, left_by, effect, fifo_back, fifo_first, fifo_in, fifo_out, fifo_undo, put_list, same_list, pop_injector, popped, take_cast, counts_at, empty_seen}
+use Rattle.rayon_machine_places.specs.Sleepers.{Counts}
+use Rattle.rayon_machine_places.specs.Targets.{target_pool, or_none, target_worker}
 use Rattle.rayon_machine_places.specs.declared.place.Taken.{Taken}
 use Rattle.rayon_machine_laws.proofs.Seats.{is_frame}
 use Rattle.rayon_machine_places.specs.Places.{after_set, same_party, after_begin, finish, next_of, settle, act_of, undo, is_member, plan_job, plan_pool, plan_book, after_push, begin_cast, begin_feed, count_book, end_cast, ends_count, withdraw}
@@ -26,7 +28,7 @@ use Rattle.rayon_machine_places.specs.declared.act.Seen.{Seen}
 use Rattle.rayon_machine_places.specs.declared.place.Settling.{Settling}
 use Rattle.rayon_machine_places.specs.declared.place.Then.{Then}
 use Rattle.rayon_machine_places.specs.declared.place.Party.TheVariants.{Worker, Caller}
-use Rattle.rayon_machine_places.specs.Steps.{after_move, part_of}
+use Rattle.rayon_machine_runs.specs.Steps.{after_move, part_of}
 use Rattle.rayon_machine_places.specs.declared.place.Latch.{Latch}
 use Rattle.rayon_machine_laws.proofs.Frame.{if_cond, same_party_true, if_some_all, if_some_map, either, if_some_and, not_same, same_index, same_party_refl, stack_mine, stack_other, list_new, list_old, same_list_refl, same_list_true}
 use Rattle.rayon_machine_places.specs.declared.place.Target.TheVariants.{Answer, Termination}

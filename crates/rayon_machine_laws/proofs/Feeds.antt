@@ -34,8 +34,8 @@ use Rattle.rayon_machine_places.specs.declared.place.Wait.{Wait}
 use Rattle.rayon_machine_places.specs.declared.place.Settling.{Settling}
 use Rattle.rayon_machine_places.specs.Places.{same_party, own_pool, own_index, plan_pool, after_wait, finish, walk, settle, after_set, after_found, after_news, set_call, next_victim, not_self, after_failure, next_steal, next_yield, next_of, is_taken, after_raise, after_push}
 use Rattle.rayon_machine_places.specs.Places.{settle_count, begin_feed, begin_cast, end_cast, ends_count, after_slot, withdraw, plan_book, count_book, taken_number}
-use Rattle.rayon_machine_places.specs.World.{Stack, World}
-use Rattle.rayon_machine_places.specs.Steps.{put_stack, after_move, is_piece}
+use Rattle.rayon_machine_runs.specs.World.{Stack, World}
+use Rattle.rayon_machine_runs.specs.Steps.{put_stack, after_move, is_piece}
 use Rattle.rayon_machine_laws.specs.Once.{one, hand_rest, hand_then}
 use Rattle.rayon_machine_laws.proofs.Frame.{same_party_true}
 use Rattle.rayon_machine_laws.proofs.Hands.{hand, held_in, held, hand_plan}

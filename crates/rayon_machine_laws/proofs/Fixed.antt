@@ -6,13 +6,14 @@ use Rattle.rayon_machine_places.specs.declared.place.Count.TheVariants.{OfPool, 
 use Rattle.rayon_machine_places.specs.declared.place.Pieces.{Pieces}
 use Rattle.rayon_machine_places.specs.declared.place.Party.{Party}
 use Rattle.rayon_machine_places.specs.declared.act.Seen.{Seen}
-use Rattle.rayon_machine_places.specs.declared.event.Event.{Event}
-use Rattle.rayon_machine_places.specs.declared.event.Event.TheVariants.{Go}
-use Rattle.rayon_machine_places.specs.declared.state.Whereabouts.TheVariants.{Over}
-use Rattle.rayon_machine_places.specs.declared.state.Job.{Job}
+use Rattle.rayon_machine_runs.specs.declared.event.Event.{Event}
+use Rattle.rayon_machine_runs.specs.declared.event.Event.TheVariants.{Go}
+use Rattle.rayon_machine_runs.specs.declared.state.Whereabouts.TheVariants.{Over}
+use Rattle.rayon_machine_runs.specs.declared.state.Job.{Job}
 use Rattle.rayon_machine_places.specs.Places.{act_of}
-use Rattle.rayon_machine_places.specs.World.{Stack, World, Part, at_job, target_pool, target_worker, target_call}
-use Rattle.rayon_machine_places.specs.Steps.{put, put_pieces, after_gather, after_send, new_piece, new_whole, step, after_deal}
+use Rattle.rayon_machine_runs.specs.World.{Stack, World, Part, at_job}
+use Rattle.rayon_machine_places.specs.Targets.{target_pool, target_worker, target_call}
+use Rattle.rayon_machine_runs.specs.Steps.{put, put_pieces, after_gather, after_send, new_piece, new_whole, step, after_deal}
 use Rattle.rayon_machine_places.specs.declared.place.Count.{Count}
 use Rattle.rayon_machine_laws.proofs.Cases.{is_act, event_cases}
 use Rattle.rayon_machine_laws.proofs.Calm.{part_at, counts_seen, next_at}

@@ -17,13 +17,13 @@ use Rattle.rayon_machine_places.specs.declared.place.Move.{Move}
 use Rattle.rayon_machine_places.specs.declared.place.Move.TheVariants.{Stay, Enter, StartRun, Back, HandBack, Discard, HandIn, Mark, HandAllBack}
 use Rattle.rayon_machine_places.specs.declared.act.Seen.{Seen}
 use Rattle.rayon_machine_places.specs.declared.act.Seen.TheVariants.{Task, Missing, Handed}
-use Rattle.rayon_machine_places.specs.declared.state.Job.{Job}
-use Rattle.rayon_machine_places.specs.declared.state.Whereabouts.{Whereabouts}
-use Rattle.rayon_machine_places.specs.declared.state.Whereabouts.TheVariants.{HandedBack, Spent, Retaken}
-use Rattle.rayon_machine_places.specs.declared.state.Scope.{Scope}
+use Rattle.rayon_machine_runs.specs.declared.state.Job.{Job}
+use Rattle.rayon_machine_runs.specs.declared.state.Whereabouts.{Whereabouts}
+use Rattle.rayon_machine_runs.specs.declared.state.Whereabouts.TheVariants.{HandedBack, Spent, Retaken}
+use Rattle.rayon_machine_runs.specs.declared.state.Scope.{Scope}
 use Rattle.rayon_machine_places.specs.Places.{is_free, same_party}
-use Rattle.rayon_machine_places.specs.Steps.{after_feed, after_fifo, after_outcome, after_spawn, after, is_pool, is_piece, marked, put, put_pieces, put_stack, jobs_after, after_enter, after_into, holds, after_into_fifo, after_enter_fifo, after_into_cast, after_enter_cast, after_deal}
-use Rattle.rayon_machine_places.specs.World.{Outcome, Stack, World, at_job, begun, Part, is_open, fifo_back, fifo_first, fifo_out, fifo_undo, but_last, last_of, same_list, put_list}
+use Rattle.rayon_machine_runs.specs.Steps.{after_feed, after_fifo, after_outcome, after_spawn, after, is_pool, is_piece, marked, put, put_pieces, put_stack, jobs_after, after_enter, after_into, holds, after_into_fifo, after_enter_fifo, after_into_cast, after_enter_cast, after_deal}
+use Rattle.rayon_machine_runs.specs.World.{Outcome, Stack, World, at_job, begun, Part, is_open, fifo_back, fifo_first, fifo_out, fifo_undo, but_last, last_of, same_list, put_list}
 
 -- a test gives one of its two answers
 pub either : (b : Bool) → (b ≡ true) ⊎ (b ≡ false)

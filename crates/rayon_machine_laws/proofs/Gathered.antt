@@ -18,13 +18,14 @@ use Rattle.rayon_machine_places.specs.declared.place.Place.TheVariants.{LowerCou
 use Rattle.rayon_machine_places.specs.declared.place.Move.{Move}
 use Rattle.rayon_machine_places.specs.declared.place.OpenCall.{OpenCall}
 use Rattle.rayon_machine_places.specs.declared.act.Seen.{Seen}
-use Rattle.rayon_machine_places.specs.declared.state.Whereabouts.TheVariants.{Made, Over, Spent}
-use Rattle.rayon_machine_places.specs.declared.state.Job.{Job}
-use Rattle.rayon_machine_places.specs.declared.state.Call.{Call}
+use Rattle.rayon_machine_runs.specs.declared.state.Whereabouts.TheVariants.{Made, Over, Spent}
+use Rattle.rayon_machine_runs.specs.declared.state.Job.{Job}
+use Rattle.rayon_machine_runs.specs.declared.state.Call.{Call}
 use Rattle.rayon_machine_places.specs.Places.{act_of, next_of, same_party}
-use Rattle.rayon_machine_places.specs.World.{World, counts_at, Part, target_pool, target_call}
-use Rattle.rayon_machine_places.specs.Steps.{put, after_move}
-use Rattle.rayon_machine_places.specs.Readers.{is_done}
+use Rattle.rayon_machine_runs.specs.World.{World, counts_at, Part}
+use Rattle.rayon_machine_places.specs.Targets.{target_pool, target_call}
+use Rattle.rayon_machine_runs.specs.Steps.{put, after_move}
+use Rattle.rayon_machine_runs.specs.Readers.{is_done}
 use Rattle.rayon_machine_laws.specs.Once.{one}
 use Rattle.rayon_machine_laws.specs.Shares.{is_scoped}
 use Rattle.rayon_machine_laws.proofs.Frame.{either, if_some_and, if_some_map, put_new, put_old}

@@ -21,19 +21,20 @@ use Rattle.rayon_machine_places.specs.declared.place.Plan.TheVariants.{Detach, H
 use Rattle.rayon_machine_places.specs.declared.place.Then.TheVariants.{Resume}
 use Rattle.rayon_machine_places.specs.declared.place.Place.{Place}
 use Rattle.rayon_machine_places.specs.declared.place.Place.TheVariants.{ProbeWorking, YieldPop, LocalPop, Run, FirstSide, SecondSide, ScopeBody, AtOnce, Free, Stopped, RaiseCount, RaiseForAll, LowerCount}
-use Rattle.rayon_machine_places.specs.declared.event.Event.{Event}
-use Rattle.rayon_machine_places.specs.declared.event.Event.TheVariants.{Go}
-use Rattle.rayon_machine_places.specs.declared.state.Letter.TheVariants.{Set as IsSet}
-use Rattle.rayon_machine_places.specs.declared.state.Whereabouts.{Whereabouts}
-use Rattle.rayon_machine_places.specs.declared.state.Whereabouts.TheVariants.{Nowhere, Running, Over, Spent}
-use Rattle.rayon_machine_places.specs.declared.state.Job.{Job}
-use Rattle.rayon_machine_places.specs.declared.state.Call.{Call}
-use Rattle.rayon_machine_places.specs.declared.state.Scope.{Scope}
+use Rattle.rayon_machine_runs.specs.declared.event.Event.{Event}
+use Rattle.rayon_machine_runs.specs.declared.event.Event.TheVariants.{Go}
+use Rattle.rayon_machine_runs.specs.declared.state.Letter.TheVariants.{Set as IsSet}
+use Rattle.rayon_machine_runs.specs.declared.state.Whereabouts.{Whereabouts}
+use Rattle.rayon_machine_runs.specs.declared.state.Whereabouts.TheVariants.{Nowhere, Running, Over, Spent}
+use Rattle.rayon_machine_runs.specs.declared.state.Job.{Job}
+use Rattle.rayon_machine_runs.specs.declared.state.Call.{Call}
+use Rattle.rayon_machine_runs.specs.declared.state.Scope.{Scope}
 use Rattle.rayon_machine_places.specs.Places.{fresh, act_of, count_kind, count_book, goes_on, same_party}
-use Rattle.rayon_machine_places.specs.World.{Shape, Pool, Stack, World, target_worker, at_job, target_pool, target_call, told}
-use Rattle.rayon_machine_places.specs.Steps.{put, put_stack, put_pieces, after_close, after_resume, after_call, new_job, new_call, new_piece, new_whole, new_gathering, after_send, step, after_feed, after_deal, after_gather}
-use Rattle.rayon_machine_places.specs.Readers.{is_done}
-use Rattle.rayon_machine_places.specs.Runs.{first_place, start, IsRun}
+use Rattle.rayon_machine_runs.specs.World.{Shape, Pool, Stack, World, at_job, told}
+use Rattle.rayon_machine_places.specs.Targets.{target_worker, target_pool, target_call}
+use Rattle.rayon_machine_runs.specs.Steps.{put, put_stack, put_pieces, after_close, after_resume, after_call, new_job, new_call, new_piece, new_whole, new_gathering, after_send, step, after_feed, after_deal, after_gather}
+use Rattle.rayon_machine_runs.specs.Readers.{is_done}
+use Rattle.rayon_machine_runs.specs.Runs.{first_place, start, IsRun}
 use Rattle.rayon_machine_laws.specs.Once.{one, runs_in}
 use Rattle.rayon_machine_laws.specs.Shares.{is_busy, is_scoped}
 use Rattle.rayon_machine_laws.specs.Counted.{has_body, is_of_scope}

@@ -23,13 +23,14 @@ use Rattle.rayon_machine_places.specs.declared.place.Move.{Move}
 use Rattle.rayon_machine_places.specs.declared.place.Move.TheVariants.{Stay, Enter, StartRun, Back, HandBack, Discard, HandIn, Mark, HandAllBack}
 use Rattle.rayon_machine_places.specs.declared.act.Seen.{Seen}
 use Rattle.rayon_machine_places.specs.declared.act.Seen.TheVariants.{Yes, No, Task, Handed}
-use Rattle.rayon_machine_places.specs.declared.state.Letter.{Letter}
-use Rattle.rayon_machine_places.specs.declared.state.Letter.TheVariants.{Unset, Sleepy as IsSleepy, Sleeping, Set as IsSet}
+use Rattle.rayon_machine_runs.specs.declared.state.Letter.{Letter}
+use Rattle.rayon_machine_runs.specs.declared.state.Letter.TheVariants.{Unset, Sleepy as IsSleepy, Sleeping, Set as IsSet}
 use Rattle.rayon_machine_places.specs.declared.shape.PoolShape.{PoolShape}
 use Rattle.rayon_machine_places.specs.declared.place.Settling.{Settling}
 use Rattle.rayon_machine_places.specs.Places.{plan_job, finish, settle, after_begin, after_set, act_of, next_of, taken_number, settle_count}
-use Rattle.rayon_machine_places.specs.World.{Shape, Stack, Counts, Part, is_held_by, letter, set_latch, effect, count_in}
-use Rattle.rayon_machine_places.specs.Steps.{back, is_piece}
+use Rattle.rayon_machine_runs.specs.World.{Shape, Stack, Part, is_held_by, letter, set_latch, effect, count_in}
+use Rattle.rayon_machine_places.specs.Sleepers.{Counts}
+use Rattle.rayon_machine_runs.specs.Steps.{back, is_piece}
 use Rattle.rayon_machine_laws.specs.Once.{one, run_of, runs_in}
 pub use Rattle.rayon_machine_laws.specs.Once.{hand_plan, hand_rest, hand_then, hand_found, hand, held_in, held, worked}
 use Rattle.rayon_machine_laws.proofs.Frame.{if_cond, out_sees}

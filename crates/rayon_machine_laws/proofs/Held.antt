@@ -16,13 +16,14 @@ use Rattle.rayon_machine_places.specs.declared.place.Place.TheVariants.{ProbeWor
 use Rattle.rayon_machine_places.specs.declared.act.Act.{Act}
 use Rattle.rayon_machine_places.specs.declared.act.Act.TheVariants.{Probe, Lock, Unlock, FifoIn, FifoUndo, FifoOut, Slot, SlotUndo, SlotAll, SlotUndoAll, StoreBody as PutBody, StoreSlot as PutSlot}
 use Rattle.rayon_machine_places.specs.declared.act.Seen.{Seen}
-use Rattle.rayon_machine_places.specs.declared.event.Event.{Event}
-use Rattle.rayon_machine_places.specs.declared.event.Event.TheVariants.{Go}
-use Rattle.rayon_machine_places.specs.declared.state.Letter.TheVariants.{Unset}
+use Rattle.rayon_machine_runs.specs.declared.event.Event.{Event}
+use Rattle.rayon_machine_runs.specs.declared.event.Event.TheVariants.{Go}
+use Rattle.rayon_machine_runs.specs.declared.state.Letter.TheVariants.{Unset}
 use Rattle.rayon_machine_places.specs.Places.{act_of, plan_book, plan_count, count_book, count_call, own_pool, own_index, same_party, fresh}
-use Rattle.rayon_machine_places.specs.World.{Shape, Stack, World, Part, Outcome, target_pool, target_worker, target_call, counts_at, effect, is_free_lock, is_held_by, is_open, is_own, last_of, same_list}
-use Rattle.rayon_machine_places.specs.Steps.{after_move, act_at, part_of, step}
-use Rattle.rayon_machine_places.specs.Runs.{IsRun, start, first_place}
+use Rattle.rayon_machine_runs.specs.World.{Shape, Stack, World, Part, Outcome, counts_at, effect, is_free_lock, is_held_by, is_open, last_of, same_list}
+use Rattle.rayon_machine_places.specs.Targets.{target_pool, target_worker, target_call, is_own}
+use Rattle.rayon_machine_runs.specs.Steps.{after_move, act_at, part_of, step}
+use Rattle.rayon_machine_runs.specs.Runs.{IsRun, start, first_place}
 use Rattle.rayon_machine_places.specs.declared.shape.PoolShape.{PoolShape}
 use Rattle.rayon_machine_laws.specs.Letters.{letter_for}
 use Rattle.rayon_machine_laws.specs.Holders.{HolderLaw, IsHolding, book_at, feeds_list, locks_at, others_hold}

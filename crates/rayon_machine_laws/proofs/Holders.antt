@@ -19,8 +19,10 @@ use Rattle.rayon_machine_places.specs.declared.act.Seen.{Seen}
 use Rattle.rayon_machine_places.specs.declared.act.Seen.TheVariants.{Done, Task}
 use Rattle.rayon_machine_places.specs.declared.shape.PoolShape.{PoolShape}
 use Rattle.rayon_machine_places.specs.Places.{act_of, next_of, plan_book, plan_count, plan_job, plan_pool, count_book, count_call, is_member, withdraw, after_slot, same_party}
-use Rattle.rayon_machine_places.specs.World.{Shape, Part, Counts, target_pool, target_worker, target_call, or_none, effect, is_free_lock, is_held_by, is_open, is_own, left_by, left_book, last_of, same_list, fifo_back}
-use Rattle.rayon_machine_places.specs.Steps.{after_move}
+use Rattle.rayon_machine_runs.specs.World.{Shape, Part, effect, is_free_lock, is_held_by, is_open, left_by, left_book, last_of, same_list, fifo_back}
+use Rattle.rayon_machine_places.specs.Sleepers.{Counts}
+use Rattle.rayon_machine_places.specs.Targets.{target_pool, target_worker, target_call, or_none, is_own}
+use Rattle.rayon_machine_runs.specs.Steps.{after_move}
 use Rattle.rayon_machine_laws.specs.Holders.{book_at, locks_at}
 use Rattle.rayon_machine_laws.proofs.Acts.{Field, Locker, Writer, Number, Kept, writes_at, keeps}
 use Rattle.rayon_machine_laws.proofs.Frame.{and_parts, either, if_cond, if_some_map, same_index, same_party_true, same_party_refl, same_refl, if_some_all, if_some_and}

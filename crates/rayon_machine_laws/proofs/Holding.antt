@@ -8,8 +8,9 @@ use Rattle.rayon_machine_places.specs.declared.place.Place.{Place}
 use Rattle.rayon_machine_places.specs.declared.place.Place.TheVariants.{BlockSelf, WakeWorker, UnlockWoken, WakeSettled, UnlockSettled}
 use Rattle.rayon_machine_places.specs.declared.act.Seen.{Seen}
 use Rattle.rayon_machine_places.specs.Places.{same_party, act_of, next_of}
-use Rattle.rayon_machine_places.specs.World.{Stack, World, counts_at, Part, target_pool, target_worker, target_call}
-use Rattle.rayon_machine_places.specs.Steps.{part_of, after_move}
+use Rattle.rayon_machine_runs.specs.World.{Stack, World, counts_at, Part}
+use Rattle.rayon_machine_places.specs.Targets.{target_pool, target_worker, target_call}
+use Rattle.rayon_machine_runs.specs.Steps.{part_of, after_move}
 use Rattle.rayon_machine_laws.specs.Committed.{is_blocking}
 use Rattle.rayon_machine_laws.proofs.Frame.{same_index, same_party_true, not_same, if_some_all, if_some_each, if_some_map}
 use Rattle.rayon_machine_laws.proofs.Locks.{holds, light_holds, lock_kept, Takes, lock_taken}

@@ -1,7 +1,7 @@
 -- what a wait says of its last announcement, and of its own deque
 use Rattle.rayon_machine_places.specs.declared.place.Plan.TheVariants.{Gather}
 use Rattle.rayon_machine_places.specs.declared.place.Plan.{Plan}
-use Rattle.rayon_machine_places.specs.World.{Shape}
+use Rattle.rayon_machine_runs.specs.World.{Shape}
 use Rattle.rayon_machine_places.specs.declared.place.Pieces.{Pieces}
 use Rattle.std.proofs.Common.{refl}
 use Rattle.std.specs.Prelude.{ℕ, Bool, true, false, ◌≡◌, Option, Some, None, ⊤}

@@ -25,9 +25,9 @@ use Rattle.rayon_machine_places.specs.declared.place.Move.{Move}
 use Rattle.rayon_machine_places.specs.declared.place.Move.TheVariants.{Stay, Enter, StartRun, Back, HandBack, Discard, HandIn, Mark, HandAllBack}
 use Rattle.rayon_machine_places.specs.declared.act.Seen.{Seen}
 use Rattle.rayon_machine_places.specs.declared.act.Seen.TheVariants.{Done, Yes, Task, Wakes, Begun, Handed}
-use Rattle.rayon_machine_places.specs.declared.state.Whereabouts.{Whereabouts}
-use Rattle.rayon_machine_places.specs.declared.state.Whereabouts.TheVariants.{Made}
-use Rattle.rayon_machine_places.specs.declared.state.Job.{Job}
+use Rattle.rayon_machine_runs.specs.declared.state.Whereabouts.{Whereabouts}
+use Rattle.rayon_machine_runs.specs.declared.state.Whereabouts.TheVariants.{Made}
+use Rattle.rayon_machine_runs.specs.declared.state.Job.{Job}
 use Rattle.rayon_machine_places.specs.declared.shape.PoolShape.{PoolShape}
 use Rattle.rayon_machine_places.specs.declared.place.Feeding.{Feeding}
 use Rattle.rayon_machine_places.specs.declared.place.Wait.{Wait}
@@ -36,7 +36,8 @@ use Rattle.rayon_machine_places.specs.declared.place.OpenCall.{OpenCall}
 use Rattle.rayon_machine_places.specs.declared.place.Pieces.{Pieces}
 use Rattle.rayon_machine_places.specs.declared.place.Settling.{Settling}
 use Rattle.rayon_machine_places.specs.Places.{own_pool, plan_book, count_book, after_news, after_wait, finish, walk, settle, after_set, after_found, after_slot, act_of, next_of, taken_number, withdraw, begin_feed, begin_cast, end_cast, ends_count, set_call, after_begin}
-use Rattle.rayon_machine_places.specs.World.{Shape, Counts, Part, effect}
+use Rattle.rayon_machine_runs.specs.World.{Shape, Part, effect}
+use Rattle.rayon_machine_places.specs.Sleepers.{Counts}
 use Rattle.rayon_machine_laws.specs.Once.{one, hand, hand_found, hand_then}
 use Rattle.rayon_machine_laws.specs.Near.{is_body}
 use Rattle.rayon_machine_laws.proofs.Frame.{if_some_all}

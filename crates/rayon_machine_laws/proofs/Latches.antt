@@ -14,11 +14,12 @@ use Rattle.rayon_machine_places.specs.declared.place.Place.TheVariants.{ProbeWor
 use Rattle.rayon_machine_places.specs.declared.act.Act.TheVariants.{Sleepy, Asleep, Wakeup, Set}
 use Rattle.rayon_machine_places.specs.declared.act.Seen.{Seen}
 use Rattle.rayon_machine_places.specs.declared.act.Seen.TheVariants.{Yes}
-use Rattle.rayon_machine_places.specs.declared.state.Letter.{Letter}
-use Rattle.rayon_machine_places.specs.declared.state.Letter.TheVariants.{Unset, Sleepy as IsSleepy, Sleeping, Set as IsSet}
+use Rattle.rayon_machine_runs.specs.declared.state.Letter.{Letter}
+use Rattle.rayon_machine_runs.specs.declared.state.Letter.TheVariants.{Unset, Sleepy as IsSleepy, Sleeping, Set as IsSet}
 use Rattle.rayon_machine_places.specs.declared.place.Settling.{Settling}
 use Rattle.rayon_machine_places.specs.Places.{latch_of, act_of}
-use Rattle.rayon_machine_places.specs.World.{Shape, Counts, Part, letter, set_latch, effect, with_letter}
+use Rattle.rayon_machine_runs.specs.World.{Shape, Part, letter, set_latch, effect, with_letter}
+use Rattle.rayon_machine_places.specs.Sleepers.{Counts}
 use Rattle.rayon_machine_laws.specs.Committed.{is_blocking}
 use Rattle.rayon_machine_laws.proofs.Acts.{SeatLetter, CallLetter, writes_at, keeps}
 use Rattle.rayon_machine_laws.proofs.Letters.{sleepy_keeps, asleep_keeps, wake_keeps}

@@ -33,12 +33,13 @@ use Rattle.rayon_machine_places.specs.declared.place.Place.TheVariants.{LockToWa
 use Rattle.rayon_machine_places.specs.declared.place.Place.TheVariants.{PushToken, TakeFromFifo, RaiseForAll, PushForAll, LowerForAll, GrowScope, OpenSlot, CloseSlot, StoreBody, StoreSlot, ScopeBody, OpenForAll, CloseForAll, GrowCast, DealPieces, StorePiece}
 use Rattle.rayon_machine_places.specs.declared.act.Seen.{Seen}
 use Rattle.rayon_machine_places.specs.declared.act.Seen.TheVariants.{Done, Refused, Yes, No}
-use Rattle.rayon_machine_places.specs.declared.state.Whereabouts.{Whereabouts}
-use Rattle.rayon_machine_places.specs.declared.state.Whereabouts.TheVariants.{Nowhere, Made, InDeque, Injected, InFifo, Running, Over, HandedBack, Spent, Retaken, InCast}
+use Rattle.rayon_machine_runs.specs.declared.state.Whereabouts.{Whereabouts}
+use Rattle.rayon_machine_runs.specs.declared.state.Whereabouts.TheVariants.{Nowhere, Made, InDeque, Injected, InFifo, Running, Over, HandedBack, Spent, Retaken, InCast}
 use Rattle.rayon_machine_places.specs.declared.place.OpenCall.{OpenCall}
 use Rattle.rayon_machine_places.specs.Places.{act_of, own_index, plan_count, count_kind, count_book}
-use Rattle.rayon_machine_places.specs.World.{Shape, Stack, World, Counts, Part, lowered, effect, count_in, raised, all_raised, all_lowered, pool_more, call_more, pool_less, call_less}
-use Rattle.rayon_machine_places.specs.Readers.{is_done}
+use Rattle.rayon_machine_runs.specs.World.{Shape, Stack, World, Part, lowered, effect, count_in, raised, all_raised, all_lowered, pool_more, call_more, pool_less, call_less}
+use Rattle.rayon_machine_places.specs.Sleepers.{Counts}
+use Rattle.rayon_machine_runs.specs.Readers.{is_done}
 use Rattle.rayon_machine_laws.proofs.Acts.{Field, Fixed, PoolCount, CallCount, writes_at, keeps}
 use Rattle.rayon_machine_laws.proofs.Claims.{Opened, IsStored, call_kind, is_body, MadeAs, FirstEnds, SaysTarget, Left, Taking, is_detached, Awaited, SaysFound, SaysPlan, SaysQueue, SaysThen, SaysOwner, SaysShare, SaysLatch, SaysRun, Says, AllSay, StackSays, SaysTold, SaysPieces}
 use Rattle.rayon_machine_laws.proofs.Claims.{SaysEntry, IsReady, Tied, PartOf, KnownCount, SaysCast, SaysGather, PieceEnds, EndsAs, SaysSlot, SaysTaken}

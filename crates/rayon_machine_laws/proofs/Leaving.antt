@@ -12,8 +12,8 @@ use Rattle.rayon_machine_places.specs.declared.act.Seen.TheVariants.{Done, Wakes
 use Rattle.rayon_machine_places.specs.declared.shape.PoolShape.{PoolShape}
 use Rattle.rayon_machine_places.specs.declared.place.Wait.{Wait}
 use Rattle.rayon_machine_places.specs.Places.{walk, after_found, next_of}
-use Rattle.rayon_machine_places.specs.World.{Seat, Stack, World, count_below, counts_at, Part, empty_seen}
-use Rattle.rayon_machine_places.specs.Steps.{after_move}
+use Rattle.rayon_machine_runs.specs.World.{Seat, Stack, World, count_below, counts_at, Part, empty_seen}
+use Rattle.rayon_machine_runs.specs.Steps.{after_move}
 use Rattle.rayon_machine_laws.specs.Committed.{is_blocking, is_committed}
 use Rattle.rayon_machine_laws.specs.Attended.{is_filled}
 use Rattle.rayon_machine_laws.proofs.Attend.{AttendedAt, Attended, attended_same, filled_put, same_quiet, owes_walk}

@@ -3,9 +3,9 @@ use Rattle.std.specs.Prelude.{◌≡◌, IfSome}
 use Rattle.rayon_machine_places.specs.declared.place.Latch.{Latch}
 use Rattle.rayon_machine_places.specs.declared.act.Seen.{Seen}
 use Rattle.rayon_machine_places.specs.declared.act.Seen.TheVariants.{Done, Refused, Yes, No}
-use Rattle.rayon_machine_places.specs.declared.state.Letter.{Letter}
-use Rattle.rayon_machine_places.specs.declared.state.Letter.TheVariants.{Unset, Sleepy as IsSleepy, Sleeping, Set as IsSet}
-use Rattle.rayon_machine_places.specs.World.{Part, with_letter, sleepy, fall_asleep, wake_up, set_latch}
+use Rattle.rayon_machine_runs.specs.declared.state.Letter.{Letter}
+use Rattle.rayon_machine_runs.specs.declared.state.Letter.TheVariants.{Unset, Sleepy as IsSleepy, Sleeping, Set as IsSet}
+use Rattle.rayon_machine_runs.specs.World.{Part, with_letter, sleepy, fall_asleep, wake_up, set_latch}
 
 -- the three acts by which a worker waits write a letter that is not Set, or none
 module _ (l : Latch) (P : Part → Seen × Part → Type 0) (same : (m : Part) (e : Seen) → P m (e, m)) (written : (m : Part) (e : Seen) (y : Letter) → (y ≡ IsSet → ⊥) → P m (e, with_letter l m y)) where

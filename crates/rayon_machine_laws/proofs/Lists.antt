@@ -14,12 +14,13 @@ use Rattle.rayon_machine_places.specs.declared.place.Plan.{Plan}
 use Rattle.rayon_machine_places.specs.declared.place.Taken.TheVariants.{Plain, Token}
 use Rattle.rayon_machine_places.specs.declared.act.Act.TheVariants.{PushOwn, PushInj}
 use Rattle.rayon_machine_places.specs.declared.act.Seen.{Seen}
-use Rattle.rayon_machine_places.specs.declared.state.Letter.{Letter}
-use Rattle.rayon_machine_places.specs.declared.state.Letter.TheVariants.{Unset}
-use Rattle.rayon_machine_places.specs.declared.state.Whereabouts.{Whereabouts}
-use Rattle.rayon_machine_places.specs.declared.state.Whereabouts.TheVariants.{Over, HandedBack, Spent}
+use Rattle.rayon_machine_runs.specs.declared.state.Letter.{Letter}
+use Rattle.rayon_machine_runs.specs.declared.state.Letter.TheVariants.{Unset}
+use Rattle.rayon_machine_runs.specs.declared.state.Whereabouts.{Whereabouts}
+use Rattle.rayon_machine_runs.specs.declared.state.Whereabouts.TheVariants.{Over, HandedBack, Spent}
 use Rattle.rayon_machine_places.specs.Places.{act_of, is_member, plan_pool, plan_job, plan_book, count_book}
-use Rattle.rayon_machine_places.specs.World.{Shape, Counts, Part, head_of, last_of, but_first, but_last, own_of, own_left, letter, set_latch, is_open, popped, pop_injector, take_cast, effect}
+use Rattle.rayon_machine_runs.specs.World.{Shape, Part, head_of, last_of, but_first, but_last, own_of, own_left, letter, set_latch, is_open, popped, pop_injector, take_cast, effect}
+use Rattle.rayon_machine_places.specs.Sleepers.{Counts}
 use Rattle.rayon_machine_laws.specs.Once.{one, times}
 use Rattle.rayon_machine_laws.proofs.Frame.{either, if_cond, if_some_map, out_sees, undo_sees}
 use Rattle.rayon_machine_laws.proofs.Hands.{got, outs}

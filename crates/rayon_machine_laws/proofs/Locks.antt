@@ -17,7 +17,9 @@ use Rattle.rayon_machine_places.specs.declared.act.Seen.TheVariants.{Yes}
 use Rattle.rayon_machine_places.specs.declared.shape.PoolShape.{PoolShape}
 use Rattle.rayon_machine_places.specs.declared.place.Settling.{Settling}
 use Rattle.rayon_machine_places.specs.Places.{same_party, after_set, act_of, next_of}
-use Rattle.rayon_machine_places.specs.World.{Shape, Counts, Part, target_pool, target_worker, is_own, is_free_lock, effect}
+use Rattle.rayon_machine_runs.specs.World.{Shape, Part, is_free_lock, effect}
+use Rattle.rayon_machine_places.specs.Sleepers.{Counts}
+use Rattle.rayon_machine_places.specs.Targets.{target_pool, target_worker, is_own}
 use Rattle.rayon_machine_laws.specs.Committed.{is_blocking}
 use Rattle.rayon_machine_laws.proofs.Acts.{Locker, writes_at, keeps}
 use Rattle.rayon_machine_laws.proofs.Frame.{same_index, same_party_refl, if_some_all, if_some_map}

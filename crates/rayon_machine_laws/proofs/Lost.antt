@@ -16,12 +16,14 @@ use Rattle.rayon_machine_places.specs.declared.place.Place.{Place}
 use Rattle.rayon_machine_places.specs.declared.place.Move.{Move}
 use Rattle.rayon_machine_places.specs.declared.place.Move.TheVariants.{Stay, Enter as Into, StartRun, Back, HandBack, HandIn, Discard, Mark, HandAllBack}
 use Rattle.rayon_machine_places.specs.declared.act.Seen.{Seen}
-use Rattle.rayon_machine_places.specs.declared.state.Whereabouts.{Whereabouts}
-use Rattle.rayon_machine_places.specs.declared.state.Whereabouts.TheVariants.{Made, Running, Over, HandedBack, Spent, InDeque, Injected, InCast}
-use Rattle.rayon_machine_places.specs.declared.state.Job.{Job}
+use Rattle.rayon_machine_runs.specs.declared.state.Whereabouts.{Whereabouts}
+use Rattle.rayon_machine_runs.specs.declared.state.Whereabouts.TheVariants.{Made, Running, Over, HandedBack, Spent, InDeque, Injected, InCast}
+use Rattle.rayon_machine_runs.specs.declared.state.Job.{Job}
 use Rattle.rayon_machine_places.specs.Places.{act_of, next_of}
-use Rattle.rayon_machine_places.specs.World.{Shape, World, Counts, Part, at_job, begun, effect, target_pool}
-use Rattle.rayon_machine_places.specs.Steps.{put, jobs_after, is_piece, mark_pieces, marked}
+use Rattle.rayon_machine_runs.specs.World.{Shape, World, Part, at_job, begun, effect}
+use Rattle.rayon_machine_places.specs.Sleepers.{Counts}
+use Rattle.rayon_machine_places.specs.Targets.{target_pool}
+use Rattle.rayon_machine_runs.specs.Steps.{put, jobs_after, is_piece, mark_pieces, marked}
 use Rattle.rayon_machine_laws.specs.Once.{one}
 use Rattle.rayon_machine_laws.proofs.Frame.{if_some_map}
 use Rattle.rayon_machine_laws.proofs.Ties.{job_at}

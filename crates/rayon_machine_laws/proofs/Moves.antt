@@ -36,17 +36,19 @@ use Rattle.rayon_machine_places.specs.declared.act.Act.{Act}
 use Rattle.rayon_machine_places.specs.declared.act.Act.TheVariants.{PushOwn, PushInj, FifoOut, FifoUndo}
 use Rattle.rayon_machine_places.specs.declared.act.Seen.{Seen}
 use Rattle.rayon_machine_places.specs.declared.act.Seen.TheVariants.{Task, Missing, Yes}
-use Rattle.rayon_machine_places.specs.declared.event.Event.{Event}
-use Rattle.rayon_machine_places.specs.declared.event.Event.TheVariants.{Go, From, Refuse, Miss, End, Spawn, Fifo, Install, Join, Yield, YieldLocal, EndPool, Cast, Scope as OpenScope, IntoSpawn, IntoFifo, IntoCast, Broadcast}
-use Rattle.rayon_machine_places.specs.declared.state.Whereabouts.{Whereabouts}
-use Rattle.rayon_machine_places.specs.declared.state.Whereabouts.TheVariants.{Made, InDeque, Injected, InFifo, InCast, Retaken, Running, Over, HandedBack, Spent}
+use Rattle.rayon_machine_runs.specs.declared.event.Event.{Event}
+use Rattle.rayon_machine_runs.specs.declared.event.Event.TheVariants.{Go, From, Refuse, Miss, End, Spawn, Fifo, Install, Join, Yield, YieldLocal, EndPool, Cast, Scope as OpenScope, IntoSpawn, IntoFifo, IntoCast, Broadcast}
+use Rattle.rayon_machine_runs.specs.declared.state.Whereabouts.{Whereabouts}
+use Rattle.rayon_machine_runs.specs.declared.state.Whereabouts.TheVariants.{Made, InDeque, Injected, InFifo, InCast, Retaken, Running, Over, HandedBack, Spent}
 use Rattle.rayon_machine_places.specs.declared.shape.PoolShape.{PoolShape}
-use Rattle.rayon_machine_places.specs.declared.state.Job.{Job}
+use Rattle.rayon_machine_runs.specs.declared.state.Job.{Job}
 use Rattle.rayon_machine_places.specs.Places.{same_party, act_of, next_of, own_pool, own_index, finish, after_set, plan_book, plan_job, plan_pool, count_book, is_free, is_member, is_taken}
-use Rattle.rayon_machine_places.specs.World.{Shape, Stack, World, Counts, Part, Outcome, counts_at, target_pool, target_worker, target_call, at_job, begun, head_of, last_of, but_last, is_open, or_none, own_of, own_left, taken_as, pop_injector, popped, take_cast, effect}
-use Rattle.rayon_machine_places.specs.Steps.{put, put_pieces, put_stack, after_close, jobs_after, marked, mark_pieces, handed_back, is_piece, after_choice, after_end}
-use Rattle.rayon_machine_places.specs.Steps.{after_miss, after_yield, after_send, after_join, after_gather, after_deal, after_feed, new_job, new_piece, new_whole, is_pool, step}
-use Rattle.rayon_machine_places.specs.Runs.{IsRun, start}
+use Rattle.rayon_machine_runs.specs.World.{Shape, Stack, World, Part, Outcome, counts_at, at_job, begun, head_of, last_of, but_last, is_open, own_of, own_left, pop_injector, popped, take_cast, effect}
+use Rattle.rayon_machine_places.specs.Sleepers.{Counts}
+use Rattle.rayon_machine_places.specs.Targets.{target_pool, target_worker, target_call, or_none, taken_as}
+use Rattle.rayon_machine_runs.specs.Steps.{put, put_pieces, put_stack, after_close, jobs_after, marked, mark_pieces, handed_back, is_piece, after_choice, after_end}
+use Rattle.rayon_machine_runs.specs.Steps.{after_miss, after_yield, after_send, after_join, after_gather, after_deal, after_feed, new_job, new_piece, new_whole, is_pool, step}
+use Rattle.rayon_machine_runs.specs.Runs.{IsRun, start}
 use Rattle.rayon_machine_laws.specs.Once.{IsOnce, one, times, in_deque, in_injector, in_fifo, in_cast, is_with, run_of, runs_with, hand, hand_plan, held, worked}
 use Rattle.rayon_machine_laws.specs.Counted.{is_detached, keeps_own}
 use Rattle.rayon_machine_laws.specs.Shares.{is_busy, share, shares}

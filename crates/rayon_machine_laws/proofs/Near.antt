@@ -17,12 +17,13 @@ use Rattle.rayon_machine_places.specs.declared.place.Move.TheVariants.{Enter}
 use Rattle.rayon_machine_places.specs.declared.act.Act.{Act}
 use Rattle.rayon_machine_places.specs.declared.act.Seen.{Seen}
 use Rattle.rayon_machine_places.specs.declared.act.Seen.TheVariants.{Missing}
-use Rattle.rayon_machine_places.specs.declared.state.Whereabouts.{Whereabouts}
-use Rattle.rayon_machine_places.specs.declared.state.Whereabouts.TheVariants.{Made, InDeque, Injected, InFifo, InCast, Retaken, Running}
-use Rattle.rayon_machine_places.specs.declared.state.Job.{Job}
+use Rattle.rayon_machine_runs.specs.declared.state.Whereabouts.{Whereabouts}
+use Rattle.rayon_machine_runs.specs.declared.state.Whereabouts.TheVariants.{Made, InDeque, Injected, InFifo, InCast, Retaken, Running}
+use Rattle.rayon_machine_runs.specs.declared.state.Job.{Job}
 use Rattle.rayon_machine_places.specs.Places.{is_member, act_of, own_pool, own_index, plan_job, plan_pool, count_book, count_kind}
-use Rattle.rayon_machine_places.specs.World.{World, Part, counts_at, target_pool, target_worker, target_call, at_job, effect, popped, take_cast, pop_injector, head_of, is_open, same_list}
-use Rattle.rayon_machine_places.specs.Steps.{part_of}
+use Rattle.rayon_machine_runs.specs.World.{World, Part, counts_at, at_job, effect, popped, take_cast, pop_injector, head_of, is_open, same_list}
+use Rattle.rayon_machine_places.specs.Targets.{target_pool, target_worker, target_call}
+use Rattle.rayon_machine_runs.specs.Steps.{part_of}
 use Rattle.rayon_machine_laws.specs.Once.{IsOnce, in_deque, in_injector, in_fifo, in_cast, is_with, one, hand, held, held_in}
 use Rattle.rayon_machine_laws.specs.Near.{IsNear, has_line, is_body, is_decked, is_direct, is_for, is_lined, is_near, is_queued}
 use Rattle.rayon_machine_laws.proofs.Frame.{and_parts, if_cond, if_some_and, if_some_map, out_sees, same_index, same_party_true, undo_sees}

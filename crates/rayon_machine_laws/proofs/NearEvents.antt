@@ -24,16 +24,17 @@ use Rattle.rayon_machine_places.specs.declared.place.Place.TheVariants.{ProbeWor
 use Rattle.rayon_machine_places.specs.declared.place.Move.{Move}
 use Rattle.rayon_machine_places.specs.declared.place.Move.TheVariants.{Stay, Enter, StartRun, Back, HandBack, Discard, HandIn, Mark, HandAllBack}
 use Rattle.rayon_machine_places.specs.declared.act.Seen.{Seen}
-use Rattle.rayon_machine_places.specs.declared.event.Event.{Event}
-use Rattle.rayon_machine_places.specs.declared.event.Event.TheVariants.{Go}
+use Rattle.rayon_machine_runs.specs.declared.event.Event.{Event}
+use Rattle.rayon_machine_runs.specs.declared.event.Event.TheVariants.{Go}
 use Rattle.rayon_machine_places.specs.declared.shape.PoolShape.{PoolShape}
-use Rattle.rayon_machine_places.specs.declared.state.Whereabouts.{Whereabouts}
-use Rattle.rayon_machine_places.specs.declared.state.Whereabouts.TheVariants.{Made, InDeque, Retaken, Running, Over}
-use Rattle.rayon_machine_places.specs.declared.state.Job.{Job}
+use Rattle.rayon_machine_runs.specs.declared.state.Whereabouts.{Whereabouts}
+use Rattle.rayon_machine_runs.specs.declared.state.Whereabouts.TheVariants.{Made, InDeque, Retaken, Running, Over}
+use Rattle.rayon_machine_runs.specs.declared.state.Job.{Job}
 use Rattle.rayon_machine_places.specs.Places.{same_party, is_member, act_of, next_of, count_book, count_kind, is_taken, goes_on, fresh}
-use Rattle.rayon_machine_places.specs.World.{Shape, Stack, World, Part, Outcome, counts_at, target_pool, target_worker, target_call, at_job, begun, popped, or_none, own_of, taken_as}
-use Rattle.rayon_machine_places.specs.Steps.{put, put_stack, put_pieces, with_stack, after_move, after_resume, after_close, after_call, is_piece, after_feed, after_deal, after_gather, after_send, new_job, new_piece, new_whole, step}
-use Rattle.rayon_machine_places.specs.Runs.{IsRun, start, first_place}
+use Rattle.rayon_machine_runs.specs.World.{Shape, Stack, World, Part, Outcome, counts_at, at_job, begun, popped, own_of}
+use Rattle.rayon_machine_places.specs.Targets.{target_pool, target_worker, target_call, or_none, taken_as}
+use Rattle.rayon_machine_runs.specs.Steps.{put, put_stack, put_pieces, with_stack, after_move, after_resume, after_close, after_call, is_piece, after_feed, after_deal, after_gather, after_send, new_job, new_piece, new_whole, step}
+use Rattle.rayon_machine_runs.specs.Runs.{IsRun, start, first_place}
 use Rattle.rayon_machine_laws.specs.Once.{IsOnce, in_deque, is_with}
 use Rattle.rayon_machine_laws.specs.Near.{IsNear, has_line, is_body, is_direct, is_for, is_near}
 use Rattle.rayon_machine_laws.proofs.Cases.{Turn, NoScope, turn_to, with_join, is_free_at, event_cases}

@@ -4,7 +4,7 @@
 -- `SetsFor` says for whom a latch is set.
 use Rattle.rayon_machine_places.specs.declared.place.Count.{Count}
 use Rattle.rayon_machine_places.specs.declared.place.Pieces.{Pieces}
-use Rattle.rayon_machine_places.specs.declared.state.Scope.{Scope}
+use Rattle.rayon_machine_runs.specs.declared.state.Scope.{Scope}
 use Rattle.rayon_machine_places.specs.declared.place.Count.TheVariants.{OfPool, OfScope, OfCast}
 use Rattle.std.proofs.Common.{arith, refl, sym, ◌∙◌, ap, subst, inl, inr}
 use Rattle.std.specs.Prelude.{ℕ, Bool, true, false, ◌&&◌, ◌+◌, ◌-◌, ◌==◌, ◌<◌, ◌≤◌, nat_lt, if◌then◌else◌, Option, Some, None, List, [], ◌∷◌, ◌≡◌, ◌⊎◌, IfSome, ◌++◌, slice_get, zero, suc}
@@ -21,14 +21,15 @@ use Rattle.rayon_machine_places.specs.declared.place.Share.TheVariants.{PoolValu
 use Rattle.rayon_machine_places.specs.declared.place.Then.TheVariants.{Resume}
 use Rattle.rayon_machine_places.specs.declared.place.Place.{Place}
 use Rattle.rayon_machine_places.specs.declared.place.Place.TheVariants.{ProbeWorking, YieldPop, LocalPop, Run, RaiseCount, LowerCount, FirstSide, SecondSide, AtOnce, Free, Stopped, RaiseForAll, ScopeBody}
-use Rattle.rayon_machine_places.specs.declared.event.Event.{Event}
-use Rattle.rayon_machine_places.specs.declared.event.Event.TheVariants.{Go}
-use Rattle.rayon_machine_places.specs.declared.state.Whereabouts.TheVariants.{Over}
-use Rattle.rayon_machine_places.specs.declared.state.Job.{Job}
+use Rattle.rayon_machine_runs.specs.declared.event.Event.{Event}
+use Rattle.rayon_machine_runs.specs.declared.event.Event.TheVariants.{Go}
+use Rattle.rayon_machine_runs.specs.declared.state.Whereabouts.TheVariants.{Over}
+use Rattle.rayon_machine_runs.specs.declared.state.Job.{Job}
 use Rattle.rayon_machine_places.specs.Places.{same_party, fresh, act_of, goes_on, count_kind, count_book}
-use Rattle.rayon_machine_places.specs.World.{Shape, Stack, World, target_pool, target_worker, target_call, at_job}
-use Rattle.rayon_machine_places.specs.Steps.{put, put_stack, with_stack, after_close, after_call, new_job, new_call, after_send, step, after_feed, is_piece, new_piece, put_pieces, after_deal, after_gather, new_whole, new_gathering}
-use Rattle.rayon_machine_places.specs.Runs.{first_place, start}
+use Rattle.rayon_machine_runs.specs.World.{Shape, Stack, World, at_job}
+use Rattle.rayon_machine_places.specs.Targets.{target_pool, target_worker, target_call}
+use Rattle.rayon_machine_runs.specs.Steps.{put, put_stack, with_stack, after_close, after_call, new_job, new_call, after_send, step, after_feed, is_piece, new_piece, put_pieces, after_deal, after_gather, new_whole, new_gathering}
+use Rattle.rayon_machine_runs.specs.Runs.{first_place, start}
 use Rattle.rayon_machine_laws.proofs.Cases.{Turn, NoCall, NoScope, NoCast, NoDeal, turn_from, turn_to, with_job, with_join, with_scope, is_act, event_cases}
 use Rattle.rayon_machine_laws.proofs.Frame.{same_party_true, if_some_map, acted_keeps, either, put_same, put_new, put_old, piece_old, piece_out}
 use Rattle.rayon_machine_laws.proofs.Owners.{own_call, sets_for, NamesFrom, plan_is, shown, count_sets}

@@ -1,5 +1,5 @@
 -- what is said of calls and their owners in every world, and what acts leave of it
-use Rattle.rayon_machine_places.specs.declared.state.Scope.{Scope}
+use Rattle.rayon_machine_runs.specs.declared.state.Scope.{Scope}
 use Rattle.std.proofs.Common.{arith, refl, sym, ◌∙◌, ap, subst}
 use Rattle.std.specs.Prelude.{ℕ, Bool, true, false, ◌<◌, ◌≤◌, if◌then◌else◌, Option, Some, None, List, [], ◌∷◌, ◌≡◌, IfSome, ⊤, slice_get}
 use Rattle.rayon_machine_places.specs.declared.place.Party.{Party}
@@ -14,8 +14,10 @@ use Rattle.rayon_machine_places.specs.declared.place.Move.{Move}
 use Rattle.rayon_machine_places.specs.declared.place.Move.TheVariants.{Stay, Enter, StartRun, Back, HandBack, Discard, HandIn, Mark, HandAllBack}
 use Rattle.rayon_machine_places.specs.declared.act.Seen.{Seen}
 use Rattle.rayon_machine_places.specs.Places.{same_party, act_of, after_begin}
-use Rattle.rayon_machine_places.specs.World.{Shape, Stack, World, Counts, Part, target_call, effect, or_none, head_of}
-use Rattle.rayon_machine_places.specs.Steps.{put, after_move, part_of}
+use Rattle.rayon_machine_runs.specs.World.{Shape, Stack, World, Part, effect, head_of}
+use Rattle.rayon_machine_places.specs.Sleepers.{Counts}
+use Rattle.rayon_machine_places.specs.Targets.{target_call, or_none}
+use Rattle.rayon_machine_runs.specs.Steps.{put, after_move, part_of}
 use Rattle.rayon_machine_laws.proofs.Acts.{Fixed as AsEver, writes_at, keeps}
 use Rattle.rayon_machine_laws.proofs.Calm.{part_at, counts_seen, next_at}
 use Rattle.rayon_machine_laws.proofs.Frame.{same_party_true, if_some_and, if_some_map, put_same, after_kind, out_sees, if_some_all}

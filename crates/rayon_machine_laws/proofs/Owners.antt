@@ -37,7 +37,8 @@ use Rattle.rayon_machine_places.specs.declared.shape.PoolShape.{PoolShape}
 use Rattle.rayon_machine_places.specs.declared.place.Wait.{Wait}
 use Rattle.rayon_machine_places.specs.declared.place.Settling.{Settling}
 use Rattle.rayon_machine_places.specs.Places.{own_pool, plan_call, after_wait, finish, walk, settle, after_set, after_found, undo, act_of, after_failure, next_of, plan_count, set_call, begin_feed, withdraw, plan_book, count_book, begin_cast, end_cast, ends_count, after_slot, taken_number}
-use Rattle.rayon_machine_places.specs.World.{Shape, Counts, Part, effect}
+use Rattle.rayon_machine_runs.specs.World.{Shape, Part, effect}
+use Rattle.rayon_machine_places.specs.Sleepers.{Counts}
 use Rattle.rayon_machine_laws.proofs.Frame.{if_some_all}
 
 -- the number of the call that a wait, a plan, or what follows belongs to

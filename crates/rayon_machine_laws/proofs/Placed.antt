@@ -29,13 +29,14 @@ use Rattle.rayon_machine_places.specs.declared.act.Act.{Act}
 use Rattle.rayon_machine_places.specs.declared.act.Act.TheVariants.{PushInj, PushOwn, FifoIn, FifoUndo, FifoOut}
 use Rattle.rayon_machine_places.specs.declared.act.Seen.{Seen}
 use Rattle.rayon_machine_places.specs.declared.act.Seen.TheVariants.{Done, Task, Missing, Begun, Handed}
-use Rattle.rayon_machine_places.specs.declared.state.Whereabouts.TheVariants.{Made, InDeque, Injected, InFifo, Retaken, Running, HandedBack, Spent}
+use Rattle.rayon_machine_runs.specs.declared.state.Whereabouts.TheVariants.{Made, InDeque, Injected, InFifo, Retaken, Running, HandedBack, Spent}
 use Rattle.rayon_machine_places.specs.declared.shape.PoolShape.{PoolShape}
-use Rattle.rayon_machine_places.specs.declared.state.Job.{Job}
+use Rattle.rayon_machine_runs.specs.declared.state.Job.{Job}
 use Rattle.rayon_machine_places.specs.Places.{same_party, own_pool, own_index, is_member, plan_pool, plan_job, act_of, next_of, taken_number, plan_book, count_book, withdraw, after_push}
-use Rattle.rayon_machine_places.specs.World.{Stack, World, counts_at, Part, target_pool, target_worker, target_call, head_of, last_of, but_last, or_none, is_open, left_by, taken_as, fifo_back, fifo_first, Outcome, at_job, begun, popped, take_cast, pop_injector, effect, left_book}
-use Rattle.rayon_machine_places.specs.World.{same_list, put_list}
-use Rattle.rayon_machine_places.specs.Steps.{put, put_stack, put_seat, part_of, step}
+use Rattle.rayon_machine_runs.specs.World.{Stack, World, counts_at, Part, head_of, last_of, but_last, is_open, left_by, fifo_back, fifo_first, Outcome, at_job, begun, popped, take_cast, pop_injector, effect, left_book}
+use Rattle.rayon_machine_places.specs.Targets.{target_pool, target_worker, target_call, or_none, taken_as}
+use Rattle.rayon_machine_runs.specs.World.{same_list, put_list}
+use Rattle.rayon_machine_runs.specs.Steps.{put, put_stack, put_seat, part_of, step}
 use Rattle.rayon_machine_laws.specs.Once.{one, times, run_of, runs_in}
 use Rattle.rayon_machine_laws.proofs.Frame.{same_index, same_refl, same_party_true, same_party_refl, if_some_each, if_some_and, if_some_map, same_list_true}
 use Rattle.rayon_machine_laws.proofs.Ties.{job_at, shape_at, outcome}

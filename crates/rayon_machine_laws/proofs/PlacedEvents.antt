@@ -30,14 +30,16 @@ use Rattle.rayon_machine_places.specs.declared.place.Place.TheVariants.{BeginHer
 use Rattle.rayon_machine_places.specs.declared.place.Move.{Move}
 use Rattle.rayon_machine_places.specs.declared.place.Move.TheVariants.{Stay, Enter, StartRun, Back, HandBack, Discard, HandIn, Mark, HandAllBack}
 use Rattle.rayon_machine_places.specs.declared.act.Seen.TheVariants.{Refused, Done, Yes}
-use Rattle.rayon_machine_places.specs.declared.state.Whereabouts.{Whereabouts}
-use Rattle.rayon_machine_places.specs.declared.state.Whereabouts.TheVariants.{Nowhere, Made, InDeque, Injected, InFifo, Retaken, Running, Over, HandedBack, Spent, InCast}
+use Rattle.rayon_machine_runs.specs.declared.state.Whereabouts.{Whereabouts}
+use Rattle.rayon_machine_runs.specs.declared.state.Whereabouts.TheVariants.{Nowhere, Made, InDeque, Injected, InFifo, Retaken, Running, Over, HandedBack, Spent, InCast}
 use Rattle.rayon_machine_places.specs.declared.shape.PoolShape.{PoolShape}
-use Rattle.rayon_machine_places.specs.declared.state.Job.{Job}
-use Rattle.rayon_machine_places.specs.declared.state.Call.{Call}
+use Rattle.rayon_machine_runs.specs.declared.state.Job.{Job}
+use Rattle.rayon_machine_runs.specs.declared.state.Call.{Call}
 use Rattle.rayon_machine_places.specs.Places.{same_party, act_of, next_of, finish, after_set, call_all, gather_all, withdraw}
-use Rattle.rayon_machine_places.specs.World.{Seat, Pool, Stack, World, target_pool, target_worker, target_call, at_job, begun, Shape, Counts, Part, counts_at, casts_with, effect, left_book, undealt_after, count_call, count_book}
-use Rattle.rayon_machine_places.specs.Steps.{put, put_stack, put_seat, back, after_move, handed_back, jobs_after, after_call, step, after, is_piece, mark_pieces, marked, part_of, put_pieces, with_stack}
+use Rattle.rayon_machine_runs.specs.World.{Seat, Pool, Stack, World, at_job, begun, Shape, Part, counts_at, casts_with, effect, left_book, undealt_after, count_call, count_book}
+use Rattle.rayon_machine_places.specs.Targets.{target_pool, target_worker, target_call}
+use Rattle.rayon_machine_places.specs.Sleepers.{Counts}
+use Rattle.rayon_machine_runs.specs.Steps.{put, put_stack, put_seat, back, after_move, handed_back, jobs_after, after_call, step, after, is_piece, mark_pieces, marked, part_of, put_pieces, with_stack}
 use Rattle.rayon_machine_laws.specs.Once.{one, times, is_known, run_of, runs_in}
 use Rattle.rayon_machine_laws.proofs.Frame.{same_party_true, if_some_map, if_some_all, if_some_and, piece_new, piece_old, pieces_same, put_same, same_index}
 use Rattle.rayon_machine_laws.proofs.Ties.{job_at, outcome, result}

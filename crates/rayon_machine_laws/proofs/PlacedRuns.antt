@@ -6,7 +6,7 @@
 use Rattle.rayon_machine_places.specs.declared.place.Count.TheVariants.{OfPool, OfScope, OfCast}
 use Rattle.rayon_machine_places.specs.declared.place.Count.{Count}
 use Rattle.rayon_machine_places.specs.declared.place.Pieces.{Pieces}
-use Rattle.rayon_machine_places.specs.declared.state.Scope.{Scope}
+use Rattle.rayon_machine_runs.specs.declared.state.Scope.{Scope}
 use Rattle.std.proofs.Common.{arith, refl, sym, ◌∙◌, ap, subst, inl, inr}
 use Rattle.std.specs.Prelude.{ℕ, Bool, true, false, ◌&&◌, ◌+◌, ◌==◌, ◌≤◌, ◌<◌, nat_lt, if◌then◌else◌, Some, None, List, [], ◌∷◌, ◌≡◌, IfSome, suc, zero, ◌-◌, ◌++◌, Option}
 use Rattle.std.proofs.lemmas.Bool.{eqb-true, eq-eqb, ltb-true, ltb-false}
@@ -23,16 +23,17 @@ use Rattle.rayon_machine_places.specs.declared.place.Plan.TheVariants.{Detach, H
 use Rattle.rayon_machine_places.specs.declared.place.Place.{Place}
 use Rattle.rayon_machine_places.specs.declared.place.Place.TheVariants.{ProbeWorking, YieldPop, LocalPop, Run, RaiseCount, FirstSide, Free, Stopped, RaiseForAll}
 use Rattle.rayon_machine_places.specs.declared.act.Seen.{Seen}
-use Rattle.rayon_machine_places.specs.declared.event.Event.{Event}
-use Rattle.rayon_machine_places.specs.declared.event.Event.TheVariants.{Go}
-use Rattle.rayon_machine_places.specs.declared.state.Whereabouts.{Whereabouts}
-use Rattle.rayon_machine_places.specs.declared.state.Whereabouts.TheVariants.{Nowhere, Made, InDeque, Injected, InFifo, Retaken, Running, Over, HandedBack, Spent, InCast}
-use Rattle.rayon_machine_places.specs.declared.state.Job.{Job}
-use Rattle.rayon_machine_places.specs.declared.state.Call.{Call}
+use Rattle.rayon_machine_runs.specs.declared.event.Event.{Event}
+use Rattle.rayon_machine_runs.specs.declared.event.Event.TheVariants.{Go}
+use Rattle.rayon_machine_runs.specs.declared.state.Whereabouts.{Whereabouts}
+use Rattle.rayon_machine_runs.specs.declared.state.Whereabouts.TheVariants.{Nowhere, Made, InDeque, Injected, InFifo, Retaken, Running, Over, HandedBack, Spent, InCast}
+use Rattle.rayon_machine_runs.specs.declared.state.Job.{Job}
+use Rattle.rayon_machine_runs.specs.declared.state.Call.{Call}
 use Rattle.rayon_machine_places.specs.Places.{same_party, fresh, act_of, next_of, goes_on, count_kind, count_book}
-use Rattle.rayon_machine_places.specs.World.{Shape, World, Part, target_pool, target_worker, target_call, at_job}
-use Rattle.rayon_machine_places.specs.Steps.{put, put_stack, after_move, after_close, after_call, new_job, new_call, after_send, step, is_piece, new_piece, put_pieces, after_deal, new_whole, new_gathering, after_feed, after_gather}
-use Rattle.rayon_machine_places.specs.Runs.{first_place, start}
+use Rattle.rayon_machine_runs.specs.World.{Shape, World, Part, at_job}
+use Rattle.rayon_machine_places.specs.Targets.{target_pool, target_worker, target_call}
+use Rattle.rayon_machine_runs.specs.Steps.{put, put_stack, after_move, after_close, after_call, new_job, new_call, after_send, step, is_piece, new_piece, put_pieces, after_deal, new_whole, new_gathering, after_feed, after_gather}
+use Rattle.rayon_machine_runs.specs.Runs.{first_place, start}
 use Rattle.rayon_machine_laws.specs.Once.{one, in_deque, in_fifo, in_injector, runs_with, is_with, is_known, may_begin, run_of, runs_in, IsOnce, in_cast}
 use Rattle.rayon_machine_laws.proofs.Cases.{is_act, event_cases}
 use Rattle.rayon_machine_laws.proofs.Frame.{either, same_party_true, if_some_map, acted_keeps, piece_in, piece_new, piece_range}

@@ -16,14 +16,14 @@ use Rattle.rayon_machine_places.specs.declared.place.Place.{Place}
 use Rattle.rayon_machine_places.specs.declared.place.Place.TheVariants.{ProbeWorking, JoinProbe, YieldPop, LocalPop, Run, RaiseCount, RaiseForAll, LowerCount, FirstSide, SecondSide, ScopeBody, AtOnce, Free}
 use Rattle.rayon_machine_places.specs.declared.place.Move.{Move}
 use Rattle.rayon_machine_places.specs.declared.place.Move.TheVariants.{Stay, Enter, StartRun, Back, HandBack, Discard, HandIn, Mark, HandAllBack}
-use Rattle.rayon_machine_places.specs.declared.event.Event.{Event}
-use Rattle.rayon_machine_places.specs.declared.state.Call.{Call}
-use Rattle.rayon_machine_places.specs.declared.state.Letter.TheVariants.{Unset}
+use Rattle.rayon_machine_runs.specs.declared.event.Event.{Event}
+use Rattle.rayon_machine_runs.specs.declared.state.Call.{Call}
+use Rattle.rayon_machine_runs.specs.declared.state.Letter.TheVariants.{Unset}
 use Rattle.rayon_machine_places.specs.Places.{is_free, is_member, goes_on}
-use Rattle.rayon_machine_places.specs.World.{Stack, World, at_job}
-use Rattle.rayon_machine_places.specs.Steps.{put, put_stack, with_stack, after_move, after_resume, after_close, after_call, after_send, new_call, step}
+use Rattle.rayon_machine_runs.specs.World.{Stack, World, at_job}
+use Rattle.rayon_machine_runs.specs.Steps.{put, put_stack, with_stack, after_move, after_resume, after_close, after_call, after_send, new_call, step}
 use Rattle.rayon_machine_laws.specs.Holders.{book_at}
-use Rattle.rayon_machine_places.specs.declared.state.Whereabouts.TheVariants.{Over}
+use Rattle.rayon_machine_runs.specs.declared.state.Whereabouts.TheVariants.{Over}
 use Rattle.rayon_machine_laws.proofs.Cases.{Turn, NoCall, NoPush, NoPushIn, NoFifo, NoFifoIn, NoPushes, NoPushesIn, turn_from, turn_to, is_free_at, event_cases}
 pub use Rattle.rayon_machine_laws.proofs.Cases.{is_act}
 use Rattle.rayon_machine_laws.proofs.Owners.{own_call}

@@ -27,14 +27,15 @@ use Rattle.rayon_machine_places.specs.declared.place.Move.{Move}
 use Rattle.rayon_machine_places.specs.declared.place.Move.TheVariants.{Stay, Enter, StartRun, Back, HandBack, Discard, HandIn, Mark, HandAllBack}
 use Rattle.rayon_machine_places.specs.declared.act.Seen.{Seen}
 use Rattle.rayon_machine_places.specs.declared.act.Seen.TheVariants.{Done, Yes, Task, Wakes, Begun, Handed}
-use Rattle.rayon_machine_places.specs.declared.state.Letter.TheVariants.{Unset}
+use Rattle.rayon_machine_runs.specs.declared.state.Letter.TheVariants.{Unset}
 use Rattle.rayon_machine_places.specs.declared.shape.PoolShape.{PoolShape}
 use Rattle.rayon_machine_places.specs.declared.place.Feeding.{Feeding}
 use Rattle.rayon_machine_places.specs.declared.place.Pieces.{Pieces}
 use Rattle.rayon_machine_places.specs.declared.place.Wait.{Wait}
 use Rattle.rayon_machine_places.specs.declared.place.Settling.{Settling}
 use Rattle.rayon_machine_places.specs.Places.{own_pool, plan_pool, plan_book, count_book, latch_of, after_news, after_wait, finish, walk, settle, after_set, after_found, act_of, after_failure, next_of, taken_number, undo, withdraw, begin_feed, after_slot, begin_cast, end_cast, ends_count, set_call, after_begin, fresh}
-use Rattle.rayon_machine_places.specs.World.{Shape, Counts, Part, effect}
+use Rattle.rayon_machine_runs.specs.World.{Shape, Part, effect}
+use Rattle.rayon_machine_places.specs.Sleepers.{Counts}
 use Rattle.rayon_machine_laws.specs.Letters.{letter_for}
 use Rattle.rayon_machine_laws.specs.Holders.{locks_at, book_at}
 use Rattle.rayon_machine_laws.proofs.Frame.{if_some_all}

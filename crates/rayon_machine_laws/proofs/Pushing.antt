@@ -12,8 +12,10 @@ use Rattle.rayon_machine_places.specs.declared.act.Act.TheVariants.{PushInj, Pus
 use Rattle.rayon_machine_places.specs.declared.act.Seen.{Seen}
 use Rattle.rayon_machine_places.specs.declared.act.Seen.TheVariants.{Done, Wakes}
 use Rattle.rayon_machine_places.specs.Places.{is_member, plan_pool, plan_job, walk, after_news, act_of, plan_book}
-use Rattle.rayon_machine_places.specs.World.{Shape, Stack, World, count_below, Counts, counts_at, wakes_for_one, Part, target_pool, effect}
-use Rattle.rayon_machine_places.specs.Steps.{after_move}
+use Rattle.rayon_machine_runs.specs.World.{Shape, Stack, World, count_below, counts_at, Part, effect}
+use Rattle.rayon_machine_places.specs.Sleepers.{Counts, wakes_for_one}
+use Rattle.rayon_machine_places.specs.Targets.{target_pool}
+use Rattle.rayon_machine_runs.specs.Steps.{after_move}
 use Rattle.rayon_machine_laws.specs.Committed.{is_committed}
 use Rattle.rayon_machine_laws.specs.Attended.{is_filled}
 use Rattle.rayon_machine_laws.proofs.Attend.{owes, HasOwing, AttendedAt, Attended, looks_from, attended_same, same_quiet, owes_walk}

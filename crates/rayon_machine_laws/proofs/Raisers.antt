@@ -15,9 +15,9 @@ use Rattle.rayon_machine_places.specs.declared.place.Place.{Place}
 use Rattle.rayon_machine_places.specs.declared.place.Place.TheVariants.{RaiseCount, GrowCall, LookQueue, PushJob, OpenSlot, CloseSlot, LockToWake, WakeWorker, UnlockWoken, LowerCount, SetLatch, LockToSettle, WakeSettled, UnlockSettled, SetLockLatch}
 use Rattle.rayon_machine_places.specs.declared.place.JobKind.{JobKind}
 use Rattle.rayon_machine_places.specs.declared.place.JobKind.TheVariants.{WholeOf}
-use Rattle.rayon_machine_places.specs.declared.state.Whereabouts.TheVariants.{Spent}
+use Rattle.rayon_machine_runs.specs.declared.state.Whereabouts.TheVariants.{Spent}
 use Rattle.rayon_machine_places.specs.Places.{same_party}
-use Rattle.rayon_machine_places.specs.World.{World}
+use Rattle.rayon_machine_runs.specs.World.{World}
 use Rattle.rayon_machine_laws.specs.Once.{one, hand_plan, hand_then}
 use Rattle.rayon_machine_laws.proofs.Frame.{same_party_refl}
 use Rattle.rayon_machine_laws.proofs.Hands.{hand, held_in, held}

@@ -22,14 +22,15 @@ use Rattle.rayon_machine_places.specs.declared.place.Move.TheVariants.{Stay, Ent
 use Rattle.rayon_machine_places.specs.declared.act.Act.{Act}
 use Rattle.rayon_machine_places.specs.declared.act.Act.TheVariants.{PushOwn, PushInj}
 use Rattle.rayon_machine_places.specs.declared.act.Seen.{Seen}
-use Rattle.rayon_machine_places.specs.declared.event.Event.{Event}
-use Rattle.rayon_machine_places.specs.declared.event.Event.TheVariants.{Go, From, Refuse, Miss, End, Spawn, Fifo, Install, Join, Yield, YieldLocal, EndPool, Cast, Scope as OpenScope, IntoSpawn, IntoFifo, IntoCast, Broadcast}
-use Rattle.rayon_machine_places.specs.declared.state.Whereabouts.{Whereabouts}
-use Rattle.rayon_machine_places.specs.declared.state.Whereabouts.TheVariants.{Over, HandedBack, Spent}
-use Rattle.rayon_machine_places.specs.declared.state.Job.{Job}
+use Rattle.rayon_machine_runs.specs.declared.event.Event.{Event}
+use Rattle.rayon_machine_runs.specs.declared.event.Event.TheVariants.{Go, From, Refuse, Miss, End, Spawn, Fifo, Install, Join, Yield, YieldLocal, EndPool, Cast, Scope as OpenScope, IntoSpawn, IntoFifo, IntoCast, Broadcast}
+use Rattle.rayon_machine_runs.specs.declared.state.Whereabouts.{Whereabouts}
+use Rattle.rayon_machine_runs.specs.declared.state.Whereabouts.TheVariants.{Over, HandedBack, Spent}
+use Rattle.rayon_machine_runs.specs.declared.state.Job.{Job}
 use Rattle.rayon_machine_places.specs.Places.{act_of, next_of, plan_book, plan_job, plan_pool, count_book, is_free, is_member}
-use Rattle.rayon_machine_places.specs.World.{Stack, World, Part, Outcome, counts_at, target_pool, target_worker, target_call, at_job, begun, head_of, is_open, or_none, pop_injector, popped, take_cast}
-use Rattle.rayon_machine_places.specs.Steps.{put, put_pieces, after_move, jobs_after, marked, mark_pieces, is_piece, after_choice, after_end, after_miss, after_yield, after_send, after_join, after_gather, after_deal, after_feed, new_job, new_piece, new_whole, is_pool, step}
+use Rattle.rayon_machine_runs.specs.World.{Stack, World, Part, Outcome, counts_at, at_job, begun, head_of, is_open, pop_injector, popped, take_cast}
+use Rattle.rayon_machine_places.specs.Targets.{target_pool, target_worker, target_call, or_none}
+use Rattle.rayon_machine_runs.specs.Steps.{put, put_pieces, after_move, jobs_after, marked, mark_pieces, is_piece, after_choice, after_end, after_miss, after_yield, after_send, after_join, after_gather, after_deal, after_feed, new_job, new_piece, new_whole, is_pool, step}
 use Rattle.rayon_machine_laws.specs.Once.{IsOnce, may_begin}
 use Rattle.rayon_machine_laws.specs.Ends.{Begins, Ends, EndsLaw}
 use Rattle.rayon_machine_laws.proofs.Frame.{acted_keeps, fifo_cases, if_cond, if_some_map, into_cases, into_cast_cases, into_fifo_cases, out_sees, piece_range, put_new, stack_mine, undo_sees}

@@ -22,30 +22,31 @@ use Rattle.rayon_machine_places.specs.declared.place.Party.TheVariants.{Caller, 
 use Rattle.rayon_machine_laws.proofs.ClaimRuns.{CallsHold, place_part, top_says, world_after}
 use Rattle.rayon_machine_places.specs.declared.place.Plan.TheVariants.{Detach, Feed, Fork, Here, Send, Open, Enter, Gather}
 use Rattle.rayon_machine_places.specs.declared.place.JobKind.TheVariants.{Detached, Direct, Stored, TokenOf, Scoped, BodyOf}
-use Rattle.rayon_machine_places.specs.declared.event.Event.TheVariants.{Go}
-use Rattle.rayon_machine_places.specs.declared.event.Event.{Event}
+use Rattle.rayon_machine_runs.specs.declared.event.Event.TheVariants.{Go}
+use Rattle.rayon_machine_runs.specs.declared.event.Event.{Event}
 use Rattle.rayon_machine_laws.proofs.Stocked.{Fair, act_fair, at_pool, begun_off, count_no_token, draws, is_held, is_pushing, live, live_off, no_pushes, one_set, pushes, token_of, up, live_none}
 use Rattle.rayon_machine_laws.proofs.FeederEvents.{first_feeders, step_feeders}
 use Rattle.rayon_machine_laws.proofs.Feeders.{FeedersHold, waits}
 use Rattle.rayon_machine_places.specs.declared.act.Act.TheVariants.{FifoOut, LookInj, LookOwn, PushInj, PushOwn}
 use Rattle.rayon_machine_places.specs.declared.act.Seen.TheVariants.{Handed, Done}
-use Rattle.rayon_machine_places.specs.declared.state.Whereabouts.TheVariants.{HandedBack, Made, Over, Retaken, Running, Spent}
+use Rattle.rayon_machine_runs.specs.declared.state.Whereabouts.TheVariants.{HandedBack, Made, Over, Retaken, Running, Spent}
 use Rattle.rayon_machine_laws.specs.Once.{IsOnce, IsRedeemed, is_with, one}
-use Rattle.rayon_machine_places.specs.Runs.{IsRun, start}
-use Rattle.rayon_machine_places.specs.declared.state.Job.{Job}
+use Rattle.rayon_machine_runs.specs.Runs.{IsRun, start}
+use Rattle.rayon_machine_runs.specs.declared.state.Job.{Job}
 use Rattle.rayon_machine_places.specs.declared.place.JobKind.{JobKind}
 use Rattle.rayon_machine_places.specs.declared.place.Move.{Move}
-use Rattle.rayon_machine_places.specs.World.{Part, Shape, Stack, World, at_job, begun, same_list, target_call, target_pool, target_worker, effect, counts_at}
+use Rattle.rayon_machine_runs.specs.World.{Part, Shape, Stack, World, at_job, begun, same_list, effect, counts_at}
+use Rattle.rayon_machine_places.specs.Targets.{target_call, target_pool, target_worker}
 use Rattle.rayon_machine_places.specs.declared.place.Party.{Party}
 use Rattle.rayon_machine_places.specs.declared.place.Place.{Place}
 use Rattle.rayon_machine_places.specs.declared.place.Plan.{Plan}
 use Rattle.rayon_machine_laws.proofs.Claims.{Says, Taking, SaysPieces}
 use Rattle.rayon_machine_places.specs.declared.act.Seen.{Seen}
 use Rattle.rayon_machine_places.specs.declared.place.Taken.TheVariants.{Token}
-use Rattle.rayon_machine_places.specs.declared.state.Whereabouts.{Whereabouts}
+use Rattle.rayon_machine_runs.specs.declared.state.Whereabouts.{Whereabouts}
 use Rattle.rayon_machine_places.specs.Places.{act_of, after_begin, is_member, look_act, next_of, own_index, own_pool, plan_job, plan_pool, push_act, same_party, plan_book, count_book, count_kind}
 use Rattle.rayon_machine_laws.proofs.Frame.{acted_keeps, and_parts, either, if_some_and, if_some_map, put_new, put_old, same_index, same_list_refl, same_list_true, same_party_true, put_same}
-use Rattle.rayon_machine_places.specs.Steps.{after_send, blank_job, handed_back, jobs_after, new_job, put, step, new_piece, is_piece, mark_pieces, marked, after_deal, after_feed, new_whole, put_pieces, after_gather}
+use Rattle.rayon_machine_runs.specs.Steps.{after_send, blank_job, handed_back, jobs_after, new_job, put, step, new_piece, is_piece, mark_pieces, marked, after_deal, after_feed, new_whole, put_pieces, after_gather}
 use Rattle.rayon_machine_laws.proofs.ClaimMakes.{first_calls, step_calls}
 use Rattle.rayon_machine_laws.proofs.Hands.{held, held_in}
 use Rattle.rayon_machine_laws.proofs.Located.{and_false, is_left}

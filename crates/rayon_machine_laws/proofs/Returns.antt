@@ -6,7 +6,7 @@ use Rattle.rayon_machine_places.specs.declared.place.Pieces.{Pieces}
 use Rattle.rayon_machine_places.specs.declared.place.Gathering.{Gathering}
 use Rattle.rayon_machine_laws.proofs.Lists.{is_settled, Onward, act_on}
 use Rattle.rayon_machine_laws.proofs.Claims.{SaysThen, SaysShare, SaysPlan}
-use Rattle.rayon_machine_places.specs.declared.state.Scope.{Scope}
+use Rattle.rayon_machine_runs.specs.declared.state.Scope.{Scope}
 use Rattle.rayon_machine_places.specs.declared.place.Count.TheVariants.{OfPool, OfScope, OfCast}
 use Rattle.rayon_machine_places.specs.declared.place.Count.{Count}
 use Rattle.std.proofs.Common.{arith, refl, sym, ◌∙◌, ap, subst, inl, inr}
@@ -27,17 +27,19 @@ use Rattle.rayon_machine_places.specs.declared.place.Place.{Place}
 use Rattle.rayon_machine_places.specs.declared.place.Place.TheVariants.{PickVictim, StealFrom, YieldPop, YieldPick, YieldSteal, LocalPop, Run, RaiseCount, GrowCall, PushJob, LowerCount, SetLatch, LockToSettle, WakeSettled, UnlockSettled, AddToFifo, PushToken, RaiseForAll, PushForAll, LowerForAll, GrowScope, OpenSlot, SetLockLatch, OpenForAll, GrowCast, DealPieces}
 use Rattle.rayon_machine_places.specs.declared.act.Seen.{Seen}
 use Rattle.rayon_machine_places.specs.declared.act.Seen.TheVariants.{Done, Refused, Yes, No, Missing, Start}
-use Rattle.rayon_machine_places.specs.declared.event.Event.{Event}
-use Rattle.rayon_machine_places.specs.declared.event.Event.TheVariants.{Go, From, Refuse, Miss, End, Spawn, Fifo, Install, Join, Yield, YieldLocal, EndPool, Cast, Scope as OpenScope, IntoSpawn, IntoFifo, IntoCast, Broadcast}
-use Rattle.rayon_machine_places.specs.declared.state.Whereabouts.{Whereabouts}
-use Rattle.rayon_machine_places.specs.declared.state.Whereabouts.TheVariants.{Over, HandedBack, Spent}
-use Rattle.rayon_machine_places.specs.declared.state.Job.{Job}
-use Rattle.rayon_machine_places.specs.declared.state.Call.{Call}
+use Rattle.rayon_machine_runs.specs.declared.event.Event.{Event}
+use Rattle.rayon_machine_runs.specs.declared.event.Event.TheVariants.{Go, From, Refuse, Miss, End, Spawn, Fifo, Install, Join, Yield, YieldLocal, EndPool, Cast, Scope as OpenScope, IntoSpawn, IntoFifo, IntoCast, Broadcast}
+use Rattle.rayon_machine_runs.specs.declared.state.Whereabouts.{Whereabouts}
+use Rattle.rayon_machine_runs.specs.declared.state.Whereabouts.TheVariants.{Over, HandedBack, Spent}
+use Rattle.rayon_machine_runs.specs.declared.state.Job.{Job}
+use Rattle.rayon_machine_runs.specs.declared.state.Call.{Call}
 use Rattle.rayon_machine_places.specs.declared.shape.PoolShape.{PoolShape}
 use Rattle.rayon_machine_places.specs.Places.{same_party, own_pool, is_member, plan_job, after_raise, act_of, next_of, is_free, plan_count, count_kind, count_book, begin_cast}
-use Rattle.rayon_machine_places.specs.World.{Shape, Stack, World, Counts, counts_at, Part, target_pool, target_worker, target_call, at_job, effect, count_in, count_pool}
-use Rattle.rayon_machine_places.specs.Steps.{put, put_stack, after_move, jobs_after, after_choice, after_refusal, can_miss, after_miss, after_close, after_end, after_call, is_pool, new_job, new_call, after_spawn, after_send, after_install, after_join, after_yield, after_end_pool, step, after_feed, after_cast, put_pieces, new_piece, is_piece, mark_pieces, marked, after_scope, after_into, holds, after_enter, after_deal, after_into_cast, after_broadcast, new_whole, new_gathering}
-use Rattle.rayon_machine_places.specs.Runs.{start, IsRun}
+use Rattle.rayon_machine_runs.specs.World.{Shape, Stack, World, counts_at, Part, at_job, effect, count_in}
+use Rattle.rayon_machine_places.specs.Sleepers.{Counts}
+use Rattle.rayon_machine_places.specs.Targets.{target_pool, target_worker, target_call, count_pool}
+use Rattle.rayon_machine_runs.specs.Steps.{put, put_stack, after_move, jobs_after, after_choice, after_refusal, can_miss, after_miss, after_close, after_end, after_call, is_pool, new_job, new_call, after_spawn, after_send, after_install, after_join, after_yield, after_end_pool, step, after_feed, after_cast, put_pieces, new_piece, is_piece, mark_pieces, marked, after_scope, after_into, holds, after_enter, after_deal, after_into_cast, after_broadcast, new_whole, new_gathering}
+use Rattle.rayon_machine_runs.specs.Runs.{start, IsRun}
 use Rattle.rayon_machine_laws.specs.Once.{one}
 use Rattle.rayon_machine_laws.specs.End.{AllJobs, after_settling, IsReturned}
 use Rattle.rayon_machine_laws.proofs.Frame.{either, same_party_true, if_some_and, if_some_map, if_cond, acted_keeps, put_same, put_new, put_old, stack_mine, stack_other, after_counted, fifo_cases, is_sharing, piece_new, piece_old, into_cases, piece_range, piece_out, into_fifo_cases, into_cast_cases, no_bare}

@@ -19,13 +19,14 @@ use Rattle.rayon_machine_places.specs.declared.place.Place.{Place}
 use Rattle.rayon_machine_places.specs.declared.place.Place.TheVariants.{RaiseCount, LowerCount, RaiseForAll, LowerForAll, DealPieces, PushForAll}
 use Rattle.rayon_machine_places.specs.declared.act.Seen.{Seen}
 use Rattle.rayon_machine_places.specs.declared.act.Seen.TheVariants.{Done, Refused, Yes, No}
-use Rattle.rayon_machine_places.specs.declared.state.Whereabouts.TheVariants.{Made}
-use Rattle.rayon_machine_places.specs.declared.state.Job.{Job}
-use Rattle.rayon_machine_places.specs.declared.state.Call.{Call}
+use Rattle.rayon_machine_runs.specs.declared.state.Whereabouts.TheVariants.{Made}
+use Rattle.rayon_machine_runs.specs.declared.state.Job.{Job}
+use Rattle.rayon_machine_runs.specs.declared.state.Call.{Call}
 use Rattle.rayon_machine_places.specs.Places.{own_pool, plan_pool, plan_job, plan_count, act_of, next_of, count_kind}
-use Rattle.rayon_machine_places.specs.World.{Stack, World, counts_at, Part, target_pool, target_call, count_in, count_pool, count_call, call_more, call_less, body_stays, undealt_after}
-use Rattle.rayon_machine_places.specs.Steps.{put, put_stack, is_piece, mark_pieces, marked, after_move}
-use Rattle.rayon_machine_places.specs.Readers.{is_done}
+use Rattle.rayon_machine_runs.specs.World.{Stack, World, counts_at, Part, count_in, count_call, call_more, call_less, body_stays, undealt_after}
+use Rattle.rayon_machine_places.specs.Targets.{target_pool, target_call, count_pool}
+use Rattle.rayon_machine_runs.specs.Steps.{put, put_stack, is_piece, mark_pieces, marked, after_move}
+use Rattle.rayon_machine_runs.specs.Readers.{is_done}
 use Rattle.rayon_machine_laws.specs.Once.{one}
 use Rattle.rayon_machine_laws.specs.Shares.{shares}
 use Rattle.rayon_machine_laws.proofs.Frame.{if_some_and, if_some_map, put_same, put_new, put_old, stack_mine, after_counted, is_sharing, piece_new, piece_old, no_bare}

@@ -29,7 +29,8 @@ use Rattle.rayon_machine_places.specs.declared.place.Settling.{Settling}
 use Rattle.rayon_machine_laws.proofs.Acts.{Inactive, Asleep, Blocked, Locker, AllKept, writes_at, keeps}
 use Rattle.rayon_machine_laws.proofs.Frame.{if_some_map}
 use Rattle.rayon_machine_places.specs.Places.{act_of, finish, next_of, same_party, settle, after_set, walk}
-use Rattle.rayon_machine_places.specs.World.{Counts, Part, Seat, Shape, effect}
+use Rattle.rayon_machine_places.specs.Sleepers.{Counts}
+use Rattle.rayon_machine_runs.specs.World.{Part, Seat, Shape, effect}
 
 -- what a place says of its party's seat: nothing; inactive; holding its own lock too; asleep too; inactive and perhaps
 -- blocked

@@ -24,15 +24,17 @@ use Rattle.rayon_machine_places.specs.declared.act.Act.{Act}
 use Rattle.rayon_machine_places.specs.declared.act.Act.TheVariants.{LookOwn, LookInj, PushOwn, PushInj, Set, LockSet}
 use Rattle.rayon_machine_places.specs.declared.act.Seen.{Seen}
 use Rattle.rayon_machine_places.specs.declared.act.Seen.TheVariants.{Done, Refused}
-use Rattle.rayon_machine_places.specs.declared.event.Event.{Event}
-use Rattle.rayon_machine_places.specs.declared.event.Event.TheVariants.{Go}
-use Rattle.rayon_machine_places.specs.declared.state.Letter.{Letter}
-use Rattle.rayon_machine_places.specs.declared.state.Letter.TheVariants.{Unset, Sleepy as IsSleepy, Sleeping, Set as IsSet}
-use Rattle.rayon_machine_places.specs.declared.state.Whereabouts.TheVariants.{Made, Spent}
+use Rattle.rayon_machine_runs.specs.declared.event.Event.{Event}
+use Rattle.rayon_machine_runs.specs.declared.event.Event.TheVariants.{Go}
+use Rattle.rayon_machine_runs.specs.declared.state.Letter.{Letter}
+use Rattle.rayon_machine_runs.specs.declared.state.Letter.TheVariants.{Unset, Sleepy as IsSleepy, Sleeping, Set as IsSet}
+use Rattle.rayon_machine_runs.specs.declared.state.Whereabouts.TheVariants.{Made, Spent}
 use Rattle.rayon_machine_places.specs.Places.{act_of, begin_act, is_member, latch_of, look_act, plan_book, plan_call, plan_job, plan_pool, push_act, count_kind}
-use Rattle.rayon_machine_places.specs.World.{Shape, World, Counts, counts_at, Part, effect, letter, with_letter, sleepy, fall_asleep, wake_up, target_pool, target_worker, target_call, call_of}
-use Rattle.rayon_machine_places.specs.Steps.{is_piece, step}
-use Rattle.rayon_machine_places.specs.Readers.{is_done}
+use Rattle.rayon_machine_runs.specs.World.{Shape, World, counts_at, Part, effect, letter, with_letter, sleepy, fall_asleep, wake_up}
+use Rattle.rayon_machine_places.specs.Sleepers.{Counts}
+use Rattle.rayon_machine_places.specs.Targets.{target_pool, target_worker, target_call, call_of}
+use Rattle.rayon_machine_runs.specs.Steps.{is_piece, step}
+use Rattle.rayon_machine_runs.specs.Readers.{is_done}
 use Rattle.rayon_machine_laws.specs.Attended.{letter_at}
 use Rattle.rayon_machine_laws.specs.Once.{one}
 use Rattle.rayon_machine_laws.specs.Latch.{sets, setters_in, setters, IsSetOnce, is_set_by, SetsSo, SetLaw}

@@ -20,19 +20,20 @@ use Rattle.rayon_machine_places.specs.declared.place.Place.TheVariants.{ProbeWor
 use Rattle.rayon_machine_places.specs.declared.place.Wait.{Wait}
 use Rattle.rayon_machine_places.specs.declared.act.Seen.{Seen}
 use Rattle.rayon_machine_places.specs.declared.act.Seen.TheVariants.{Refused, Missing, Start}
-use Rattle.rayon_machine_places.specs.declared.event.Event.{Event}
-use Rattle.rayon_machine_places.specs.declared.event.Event.TheVariants.{Go, From, Refuse, Miss, End, Spawn, Fifo, Install, Join, Yield, YieldLocal, EndPool, Cast, Scope as OpenScope, IntoSpawn, IntoFifo, IntoCast, Broadcast}
-use Rattle.rayon_machine_places.specs.declared.state.Letter.TheVariants.{Unset, Set as IsSet}
-use Rattle.rayon_machine_places.specs.declared.state.Whereabouts.TheVariants.{Running, Over}
-use Rattle.rayon_machine_places.specs.declared.state.Job.{Job}
-use Rattle.rayon_machine_places.specs.declared.state.Call.{Call}
-use Rattle.rayon_machine_places.specs.declared.state.Scope.{Scope}
+use Rattle.rayon_machine_runs.specs.declared.event.Event.{Event}
+use Rattle.rayon_machine_runs.specs.declared.event.Event.TheVariants.{Go, From, Refuse, Miss, End, Spawn, Fifo, Install, Join, Yield, YieldLocal, EndPool, Cast, Scope as OpenScope, IntoSpawn, IntoFifo, IntoCast, Broadcast}
+use Rattle.rayon_machine_runs.specs.declared.state.Letter.TheVariants.{Unset, Set as IsSet}
+use Rattle.rayon_machine_runs.specs.declared.state.Whereabouts.TheVariants.{Running, Over}
+use Rattle.rayon_machine_runs.specs.declared.state.Job.{Job}
+use Rattle.rayon_machine_runs.specs.declared.state.Call.{Call}
+use Rattle.rayon_machine_runs.specs.declared.state.Scope.{Scope}
 use Rattle.rayon_machine_places.specs.declared.shape.PoolShape.{PoolShape}
 use Rattle.rayon_machine_places.specs.Places.{fresh, own_pool, own_index, is_member, act_of, next_of, count_kind, count_book, plan_book, is_free, next_victim, next_steal, next_yield, not_self, same_party}
-use Rattle.rayon_machine_places.specs.World.{Shape, Pool, Stack, World, target_worker, at_job, target_pool, target_call}
-use Rattle.rayon_machine_places.specs.Steps.{put, put_stack, put_pieces, after_move, after_choice, after_refusal, can_miss, after_miss, after_close, after_end, after_resume, after_call, is_pool, new_job, new_call, new_piece, new_whole, new_gathering, after_spawn, after_send, after_install, after_join, after_yield, after_end_pool, step, after_feed, after_scope, holds, after_enter, after_deal, after_broadcast}
-use Rattle.rayon_machine_places.specs.Readers.{is_done}
-use Rattle.rayon_machine_places.specs.Runs.{first_place, start, IsRun}
+use Rattle.rayon_machine_runs.specs.World.{Shape, Pool, Stack, World, at_job}
+use Rattle.rayon_machine_places.specs.Targets.{target_worker, target_pool, target_call}
+use Rattle.rayon_machine_runs.specs.Steps.{put, put_stack, put_pieces, after_move, after_choice, after_refusal, can_miss, after_miss, after_close, after_end, after_resume, after_call, is_pool, new_job, new_call, new_piece, new_whole, new_gathering, after_spawn, after_send, after_install, after_join, after_yield, after_end_pool, step, after_feed, after_scope, holds, after_enter, after_deal, after_broadcast}
+use Rattle.rayon_machine_runs.specs.Readers.{is_done}
+use Rattle.rayon_machine_runs.specs.Runs.{first_place, start, IsRun}
 use Rattle.rayon_machine_laws.specs.Once.{one, runs_in}
 use Rattle.rayon_machine_laws.proofs.Frame.{either, and_parts, same_party_true, if_some_and, if_some_map, if_cond, acted_keeps, put_same, put_new, put_old, fifo_cases, into_cases, into_fifo_cases, into_cast_cases, piece_old, piece_out}
 use Rattle.rayon_machine_laws.proofs.Ties.{AllFrames, job_at, outcome}

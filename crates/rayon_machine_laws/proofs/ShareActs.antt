@@ -21,12 +21,14 @@ use Rattle.rayon_machine_places.specs.declared.place.Place.TheVariants.{RaiseCou
 use Rattle.rayon_machine_places.specs.declared.act.Act.TheVariants.{PushInj, PushOwn, FifoOut, FifoUndo}
 use Rattle.rayon_machine_places.specs.declared.act.Seen.{Seen}
 use Rattle.rayon_machine_places.specs.declared.act.Seen.TheVariants.{Done, Missing, Task}
-use Rattle.rayon_machine_places.specs.declared.state.Whereabouts.{Whereabouts}
-use Rattle.rayon_machine_places.specs.declared.state.Whereabouts.TheVariants.{Nowhere, Made, InDeque, Injected, InFifo, Retaken, InCast}
-use Rattle.rayon_machine_places.specs.declared.state.Job.{Job}
+use Rattle.rayon_machine_runs.specs.declared.state.Whereabouts.{Whereabouts}
+use Rattle.rayon_machine_runs.specs.declared.state.Whereabouts.TheVariants.{Nowhere, Made, InDeque, Injected, InFifo, Retaken, InCast}
+use Rattle.rayon_machine_runs.specs.declared.state.Job.{Job}
 use Rattle.rayon_machine_places.specs.Places.{own_pool, own_index, is_member, plan_pool, plan_job, act_of, taken_number, plan_book, count_book}
-use Rattle.rayon_machine_places.specs.World.{Shape, World, Counts, counts_at, Part, target_pool, target_worker, target_call, head_of, but_first, own_of, own_left, or_none, but_last, at_job, popped, take_cast, pop_injector, effect, is_open}
-use Rattle.rayon_machine_places.specs.Steps.{part_of}
+use Rattle.rayon_machine_runs.specs.World.{Shape, World, counts_at, Part, head_of, but_first, own_of, own_left, but_last, at_job, popped, take_cast, pop_injector, effect, is_open}
+use Rattle.rayon_machine_places.specs.Sleepers.{Counts}
+use Rattle.rayon_machine_places.specs.Targets.{target_pool, target_worker, target_call, or_none}
+use Rattle.rayon_machine_runs.specs.Steps.{part_of}
 use Rattle.rayon_machine_laws.specs.Once.{one, times, in_deque, in_injector, IsOnce, in_fifo, in_cast}
 use Rattle.rayon_machine_laws.specs.Counted.{keeps_own, has_share}
 use Rattle.rayon_machine_laws.specs.Shares.{shares, is_busy}

@@ -3,7 +3,7 @@ use Rattle.rayon_machine_places.specs.declared.place.Count.TheVariants.{OfPool, 
 use Rattle.rayon_machine_places.specs.declared.place.Count.{Count}
 use Rattle.rayon_machine_laws.proofs.Raisers.{unmade_raises}
 use Rattle.rayon_machine_places.specs.declared.place.Pieces.{Pieces}
-use Rattle.rayon_machine_places.specs.declared.state.Scope.{Scope}
+use Rattle.rayon_machine_runs.specs.declared.state.Scope.{Scope}
 use Rattle.std.proofs.Common.{arith, refl, sym, ◌∙◌, ap, subst, inl, inr}
 use Rattle.std.specs.Prelude.{ℕ, Bool, true, false, ◌&&◌, ◌+◌, ◌==◌, ◌≤◌, ◌<◌, nat_lt, if◌then◌else◌, Some, None, List, [], ◌∷◌, ◌≡◌, IfSome, ◌-◌, ◌++◌, zero, suc}
 use Rattle.std.proofs.lemmas.Bool.{eqb-true, ltb-true, ltb-false}
@@ -19,16 +19,17 @@ use Rattle.rayon_machine_places.specs.declared.place.Plan.{Plan}
 use Rattle.rayon_machine_places.specs.declared.place.Plan.TheVariants.{Detach, Here, Send, Fork, Feed, Open, Enter, Gather}
 use Rattle.rayon_machine_places.specs.declared.place.Place.{Place}
 use Rattle.rayon_machine_places.specs.declared.place.Place.TheVariants.{ProbeWorking, YieldPop, LocalPop, Run, RaiseCount, FirstSide, SecondSide, AtOnce, Free, Stopped, RaiseForAll}
-use Rattle.rayon_machine_places.specs.declared.event.Event.{Event}
-use Rattle.rayon_machine_places.specs.declared.event.Event.TheVariants.{Go, From, Refuse, Miss, End, Spawn, Fifo, Install, Join, Yield, YieldLocal, EndPool, Cast, Scope as OpenScope, IntoSpawn, IntoFifo, IntoCast, Broadcast}
-use Rattle.rayon_machine_places.specs.declared.state.Whereabouts.TheVariants.{Nowhere, Running, Over}
-use Rattle.rayon_machine_places.specs.declared.state.Job.{Job}
-use Rattle.rayon_machine_places.specs.declared.state.Call.{Call}
+use Rattle.rayon_machine_runs.specs.declared.event.Event.{Event}
+use Rattle.rayon_machine_runs.specs.declared.event.Event.TheVariants.{Go, From, Refuse, Miss, End, Spawn, Fifo, Install, Join, Yield, YieldLocal, EndPool, Cast, Scope as OpenScope, IntoSpawn, IntoFifo, IntoCast, Broadcast}
+use Rattle.rayon_machine_runs.specs.declared.state.Whereabouts.TheVariants.{Nowhere, Running, Over}
+use Rattle.rayon_machine_runs.specs.declared.state.Job.{Job}
+use Rattle.rayon_machine_runs.specs.declared.state.Call.{Call}
 use Rattle.rayon_machine_places.specs.Places.{same_party, is_member, plan_job, fresh, act_of, goes_on, is_free, count_kind, count_book}
-use Rattle.rayon_machine_places.specs.World.{Shape, World, target_pool, target_worker, target_call, at_job}
-use Rattle.rayon_machine_places.specs.Steps.{put, put_stack, after_close, after_end, after_call, is_pool, new_job, new_call, after_spawn, after_fifo, after_send, after_install, after_join, step, after_cast, put_pieces, new_piece, is_piece, after_scope, after_into, holds}
-use Rattle.rayon_machine_places.specs.Steps.{after_feed, after_deal, after_enter, after_into_fifo, after_into_cast, after_broadcast, new_whole, new_gathering}
-use Rattle.rayon_machine_places.specs.Runs.{first_place, start, IsRun}
+use Rattle.rayon_machine_runs.specs.World.{Shape, World, at_job}
+use Rattle.rayon_machine_places.specs.Targets.{target_pool, target_worker, target_call}
+use Rattle.rayon_machine_runs.specs.Steps.{put, put_stack, after_close, after_end, after_call, is_pool, new_job, new_call, after_spawn, after_fifo, after_send, after_install, after_join, step, after_cast, put_pieces, new_piece, is_piece, after_scope, after_into, holds}
+use Rattle.rayon_machine_runs.specs.Steps.{after_feed, after_deal, after_enter, after_into_fifo, after_into_cast, after_broadcast, new_whole, new_gathering}
+use Rattle.rayon_machine_runs.specs.Runs.{first_place, start, IsRun}
 use Rattle.rayon_machine_laws.specs.Once.{one, runs_in}
 use Rattle.rayon_machine_laws.specs.Shares.{share, shares_in, shares, is_busy, IsGone, is_scoped}
 use Rattle.rayon_machine_laws.proofs.Frame.{either, fifo_cases, same_party_true, if_cond, acted_keeps, put_same, put_new, put_old, stack_mine, piece_range, piece_old, piece_out, into_cases, into_fifo_cases, into_cast_cases}

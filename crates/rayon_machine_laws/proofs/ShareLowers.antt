@@ -2,7 +2,7 @@
 use Rattle.rayon_machine_places.specs.declared.place.Mark.TheVariants.{Returned}
 use Rattle.rayon_machine_places.specs.declared.act.Seen.TheVariants.{Yes}
 use Rattle.rayon_machine_places.specs.declared.shape.PoolShape.{PoolShape}
-use Rattle.rayon_machine_places.specs.declared.state.Job.{Job}
+use Rattle.rayon_machine_runs.specs.declared.state.Job.{Job}
 use Rattle.rayon_machine_places.specs.declared.place.Pieces.{Pieces}
 use Rattle.rayon_machine_laws.specs.Counted.{is_scoped}
 use Rattle.rayon_machine_places.specs.declared.place.Then.TheVariants.{BeginFound, LeaveWait, Resume, Await, RunFirst, Answers, Missing, Ran, GiveBack, Called, Gathers}
@@ -21,8 +21,9 @@ use Rattle.rayon_machine_places.specs.declared.place.Place.{Place}
 use Rattle.rayon_machine_places.specs.declared.place.Place.TheVariants.{LowerCount, LowerForAll}
 use Rattle.rayon_machine_places.specs.declared.act.Seen.{Seen}
 use Rattle.rayon_machine_places.specs.Places.{own_index, next_of, plan_job, plan_count, count_kind}
-use Rattle.rayon_machine_places.specs.World.{Pool, Stack, World, share_job, lowered, count_pool, count_call, pool_less, all_lowered as all_given}
-use Rattle.rayon_machine_places.specs.Steps.{put, put_stack, part_of, after_move, after, is_piece, mark_pieces, marked, jobs_after}
+use Rattle.rayon_machine_runs.specs.World.{Pool, Stack, World, lowered, count_call, pool_less, all_lowered as all_given}
+use Rattle.rayon_machine_places.specs.Targets.{share_job, count_pool}
+use Rattle.rayon_machine_runs.specs.Steps.{put, put_stack, part_of, after_move, after, is_piece, mark_pieces, marked, jobs_after}
 use Rattle.rayon_machine_laws.specs.Once.{one}
 use Rattle.rayon_machine_laws.specs.Shares.{shares}
 use Rattle.rayon_machine_laws.proofs.Claims.{call_unscoped, SaysOwner, SaysPieces, SaysPlan, SaysThen, SaysShare, SaysCast}

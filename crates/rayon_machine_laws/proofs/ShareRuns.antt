@@ -12,13 +12,14 @@ use Rattle.rayon_machine_places.specs.declared.place.Place.{Place}
 use Rattle.rayon_machine_places.specs.declared.place.Move.{Move}
 use Rattle.rayon_machine_places.specs.declared.place.Move.TheVariants.{Stay, Enter, StartRun, Back, HandBack, Discard, HandIn, Mark, HandAllBack}
 use Rattle.rayon_machine_places.specs.declared.act.Seen.{Seen}
-use Rattle.rayon_machine_places.specs.declared.state.Whereabouts.{Whereabouts}
-use Rattle.rayon_machine_places.specs.declared.state.Whereabouts.TheVariants.{Nowhere, Made, InDeque, Injected, InFifo, Retaken, Running, Over, HandedBack, Spent, InCast}
+use Rattle.rayon_machine_runs.specs.declared.state.Whereabouts.{Whereabouts}
+use Rattle.rayon_machine_runs.specs.declared.state.Whereabouts.TheVariants.{Nowhere, Made, InDeque, Injected, InFifo, Retaken, Running, Over, HandedBack, Spent, InCast}
 use Rattle.rayon_machine_places.specs.declared.shape.PoolShape.{PoolShape}
-use Rattle.rayon_machine_places.specs.declared.state.Job.{Job}
+use Rattle.rayon_machine_runs.specs.declared.state.Job.{Job}
 use Rattle.rayon_machine_places.specs.Places.{same_party, act_of, next_of}
-use Rattle.rayon_machine_places.specs.World.{Stack, World, Part, target_pool, at_job, begun}
-use Rattle.rayon_machine_places.specs.Steps.{put, put_stack, after_move, jobs_after, is_piece, mark_pieces, marked}
+use Rattle.rayon_machine_runs.specs.World.{Stack, World, Part, at_job, begun}
+use Rattle.rayon_machine_places.specs.Targets.{target_pool}
+use Rattle.rayon_machine_runs.specs.Steps.{put, put_stack, after_move, jobs_after, is_piece, mark_pieces, marked}
 use Rattle.rayon_machine_laws.specs.Once.{one}
 use Rattle.rayon_machine_laws.specs.Shares.{share, shares_in, shares, is_busy}
 use Rattle.rayon_machine_laws.proofs.Frame.{same_party_true, stack_mine, stack_other, Bare, bare_less, after_counted, is_sharing}

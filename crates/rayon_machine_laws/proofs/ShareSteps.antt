@@ -30,10 +30,12 @@ use Rattle.rayon_machine_places.specs.declared.place.Place.{Place}
 use Rattle.rayon_machine_places.specs.declared.place.Place.TheVariants.{RaiseCount, RaiseForAll, LowerForAll, LowerCount, SetLatch, UnlockSettled, SetLockLatch, ProbeWorking, DealPieces}
 use Rattle.rayon_machine_places.specs.declared.act.Seen.{Seen}
 use Rattle.rayon_machine_places.specs.declared.act.Seen.TheVariants.{Done, Refused, Yes}
-use Rattle.rayon_machine_places.specs.declared.state.Job.{Job}
+use Rattle.rayon_machine_runs.specs.declared.state.Job.{Job}
 use Rattle.rayon_machine_places.specs.Places.{same_party, own_index, plan_pool, plan_job, act_of, next_of, finish, after_set, after_raise, plan_count, count_kind}
-use Rattle.rayon_machine_places.specs.World.{Stack, World, Part, target_pool, Shape, Counts, effect, raised, count_pool, count_call, pool_more, Pool, all_raised as all_shared}
-use Rattle.rayon_machine_places.specs.Steps.{put, put_stack, part_of, after_move, after, is_piece, mark_pieces, marked}
+use Rattle.rayon_machine_runs.specs.World.{Stack, World, Part, Shape, effect, raised, count_call, pool_more, Pool, all_raised as all_shared}
+use Rattle.rayon_machine_places.specs.Targets.{target_pool, count_pool}
+use Rattle.rayon_machine_places.specs.Sleepers.{Counts}
+use Rattle.rayon_machine_runs.specs.Steps.{put, put_stack, part_of, after_move, after, is_piece, mark_pieces, marked}
 use Rattle.rayon_machine_laws.specs.Once.{one}
 use Rattle.rayon_machine_laws.specs.Shares.{shares, is_busy}
 use Rattle.rayon_machine_laws.proofs.Frame.{same_party_true, put_same, put_new, put_old, after_counted, is_sharing, if_some_all, piece_new, piece_old, gives_pieces, no_bare}

@@ -12,7 +12,7 @@ use Rattle.rayon_machine_laws.proofs.Seats.{Dozes, Lies, Mode, SeatOk, asleep_in
 use Rattle.rayon_machine_laws.proofs.Ties.{SeatsOk}
 use Rattle.rayon_machine_laws.specs.Committed.{is_blocking, is_committed}
 use Rattle.rayon_machine_laws.specs.Seats.{IsSeated, inactive_at, asleep_at, relocks_at}
-use Rattle.rayon_machine_places.specs.World.{Seat, World}
+use Rattle.rayon_machine_runs.specs.World.{Seat, World}
 
 sleeps_inactive : (x : Mode) → asleep_in x ≡ true → inactive_in x ≡ true
 sleeps_inactive Dozes e = refl

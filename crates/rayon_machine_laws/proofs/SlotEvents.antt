@@ -25,20 +25,21 @@ use Rattle.rayon_machine_places.specs.declared.place.Move.{Move}
 use Rattle.rayon_machine_places.specs.declared.place.Move.TheVariants.{Stay, Enter, StartRun, Back, HandBack, Discard, HandIn, Mark, HandAllBack}
 use Rattle.rayon_machine_places.specs.declared.act.Seen.{Seen}
 use Rattle.rayon_machine_places.specs.declared.act.Seen.TheVariants.{Done, Opened as Numbers}
-use Rattle.rayon_machine_places.specs.declared.event.Event.{Event}
-use Rattle.rayon_machine_places.specs.declared.event.Event.TheVariants.{Go}
+use Rattle.rayon_machine_runs.specs.declared.event.Event.{Event}
+use Rattle.rayon_machine_runs.specs.declared.event.Event.TheVariants.{Go}
 use Rattle.rayon_machine_places.specs.declared.shape.PoolShape.{PoolShape}
-use Rattle.rayon_machine_places.specs.declared.state.Whereabouts.{Whereabouts}
-use Rattle.rayon_machine_places.specs.declared.state.Whereabouts.TheVariants.{Made, Retaken, Running, Over}
-use Rattle.rayon_machine_places.specs.declared.state.Job.{Job}
-use Rattle.rayon_machine_places.specs.declared.state.Scope.{Scope}
-use Rattle.rayon_machine_places.specs.declared.state.Slot.{Slot as SlotState}
-use Rattle.rayon_machine_places.specs.declared.state.Slot.TheVariants.{Closed, Open as IsOpen, Filled}
-use Rattle.rayon_machine_places.specs.Readers.{is_done}
+use Rattle.rayon_machine_runs.specs.declared.state.Whereabouts.{Whereabouts}
+use Rattle.rayon_machine_runs.specs.declared.state.Whereabouts.TheVariants.{Made, Retaken, Running, Over}
+use Rattle.rayon_machine_runs.specs.declared.state.Job.{Job}
+use Rattle.rayon_machine_runs.specs.declared.state.Scope.{Scope}
+use Rattle.rayon_machine_runs.specs.declared.state.Slot.{Slot as SlotState}
+use Rattle.rayon_machine_runs.specs.declared.state.Slot.TheVariants.{Closed, Open as IsOpen, Filled}
+use Rattle.rayon_machine_runs.specs.Readers.{is_done}
 use Rattle.rayon_machine_places.specs.Places.{same_party, act_of, next_of, count_book, count_kind, begin_feed, begin_cast, count_call, gather_all, goes_on}
-use Rattle.rayon_machine_places.specs.World.{Shape, Stack, World, Part, counts_at, target_pool, target_worker, target_call, at_job, filled, is_open}
-use Rattle.rayon_machine_places.specs.Steps.{put, put_stack, put_pieces, back, with_stack, after_move, after_resume, after_close, after_call, jobs_after, is_piece, marked, after_feed, after_deal, after_gather, after_send, new_job, new_piece, new_whole, step}
-use Rattle.rayon_machine_places.specs.Runs.{IsRun, start}
+use Rattle.rayon_machine_runs.specs.World.{Shape, Stack, World, Part, counts_at, at_job, filled, is_open}
+use Rattle.rayon_machine_places.specs.Targets.{target_pool, target_worker, target_call}
+use Rattle.rayon_machine_runs.specs.Steps.{put, put_stack, put_pieces, back, with_stack, after_move, after_resume, after_close, after_call, jobs_after, is_piece, marked, after_feed, after_deal, after_gather, after_send, new_job, new_piece, new_whole, step}
+use Rattle.rayon_machine_runs.specs.Runs.{IsRun, start}
 use Rattle.rayon_machine_laws.specs.Once.{IsOnce, is_with, held, one}
 use Rattle.rayon_machine_laws.specs.Fixed.{FixedLaw, slot_stays}
 use Rattle.rayon_machine_laws.proofs.Cases.{Turn, NoScope, turn_to, with_job, event_cases}

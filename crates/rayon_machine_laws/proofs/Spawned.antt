@@ -20,11 +20,11 @@ use Rattle.rayon_machine_places.specs.declared.place.Then.TheVariants.{BeginFoun
 use Rattle.rayon_machine_places.specs.declared.place.Place.{Place}
 use Rattle.rayon_machine_places.specs.declared.place.Place.TheVariants.{ProbeWorking, LeaveSearch, BeginTask, BeginHere, Run, RaiseCount, GrowCall, LookQueue, PushJob, AddToFifo, LookForToken, PushToken, TakeFromFifo, RaiseForAll, PushForAll, LowerForAll, TellNews, LockToWake}
 use Rattle.rayon_machine_places.specs.declared.place.Place.TheVariants.{WakeWorker, UnlockWoken, LowerCount, SetLatch, LockToSettle, WakeSettled, UnlockSettled, GrowScope, OpenSlot, CloseSlot, SetLockLatch, OpenForAll, CloseForAll, GrowCast, DealPieces, ScopeBody}
-use Rattle.rayon_machine_places.specs.declared.state.Whereabouts.{Whereabouts}
-use Rattle.rayon_machine_places.specs.declared.state.Whereabouts.TheVariants.{Nowhere, Made, InDeque, Injected, InFifo, InCast, Running, Over, Retaken, HandedBack, Spent}
+use Rattle.rayon_machine_runs.specs.declared.state.Whereabouts.{Whereabouts}
+use Rattle.rayon_machine_runs.specs.declared.state.Whereabouts.TheVariants.{Nowhere, Made, InDeque, Injected, InFifo, InCast, Running, Over, Retaken, HandedBack, Spent}
 use Rattle.rayon_machine_places.specs.Places.{holds_scope, plan_count, count_kind, taken_number}
-use Rattle.rayon_machine_places.specs.World.{World}
-use Rattle.rayon_machine_places.specs.Steps.{holds_in, is_piece}
+use Rattle.rayon_machine_runs.specs.World.{World}
+use Rattle.rayon_machine_runs.specs.Steps.{holds_in, is_piece}
 use Rattle.rayon_machine_laws.specs.Once.{one, is_with, is_known, may_begin, run_of, runs_in, worked, hand_plan, hand_rest, hand_then, hand_found, hand, held_in, held}
 use Rattle.rayon_machine_laws.specs.Shares.{is_busy}
 use Rattle.rayon_machine_laws.specs.Counted.{is_scoped, is_through, ScopeEnded, ScopesCounted}

@@ -1,9 +1,9 @@
 -- what is over stays over: each step keeps what it finds final (`Advance`)
 use Rattle.std.proofs.Common.{subst}
 use Rattle.std.specs.Prelude.{ℕ, Some, ◌≡◌}
-use Rattle.rayon_machine_places.specs.declared.event.Event.{Event}
-use Rattle.rayon_machine_places.specs.World.{World}
-use Rattle.rayon_machine_places.specs.Steps.{step}
+use Rattle.rayon_machine_runs.specs.declared.event.Event.{Event}
+use Rattle.rayon_machine_runs.specs.World.{World}
+use Rattle.rayon_machine_runs.specs.Steps.{step}
 use Rattle.rayon_machine_laws.specs.Stays.{StaysLaw}
 use Rattle.rayon_machine_laws.proofs.PlacedEvents.{Advance, IsFinal}
 use Rattle.rayon_machine_laws.proofs.PlacedRuns.{step_advance}

@@ -7,12 +7,14 @@ use Rattle.rayon_machine_places.specs.declared.place.Count.{Count}
 use Rattle.rayon_machine_places.specs.declared.place.Count.TheVariants.{OfPool, OfScope, OfCast}
 use Rattle.rayon_machine_places.specs.declared.place.Place.TheVariants.{AddToFifo, BeginHere, BeginTask, JoinPop, JoinTakeCast, LocalPop, LocalTakeCast, PopIdle, PopInjected, PopWorking, PushJob, PushToken, StealFrom, TakeCastIdle, TakeCastWorking, TakeFromFifo, YieldPop, YieldPopInjected, YieldSteal, YieldTakeCast, PushForAll, DealPieces}
 use Rattle.rayon_machine_places.specs.declared.place.Party.TheVariants.{Caller, Worker}
-use Rattle.rayon_machine_places.specs.World.{Counts, Part, Shape, World, at_job, begun, but_first, but_last, counts_at, effect, fifo_in, fifo_out, fifo_undo, head_of, is_open, last_of, left_by, put_list, same_list, or_none, own_left, own_of, pop_injector, popped, take_cast, target_call, target_pool, target_worker}
+use Rattle.rayon_machine_places.specs.Sleepers.{Counts}
+use Rattle.rayon_machine_runs.specs.World.{Part, Shape, World, at_job, begun, but_first, but_last, counts_at, effect, fifo_in, fifo_out, fifo_undo, head_of, is_open, last_of, left_by, put_list, same_list, own_left, own_of, pop_injector, popped, take_cast}
+use Rattle.rayon_machine_places.specs.Targets.{or_none, target_call, target_pool, target_worker}
 use Rattle.rayon_machine_places.specs.declared.place.Plan.TheVariants.{Detach, Feed, Fork, Here, Send, Open, Enter, Gather}
 use Rattle.rayon_machine_places.specs.declared.place.Feeding.{Feeding}
-use Rattle.rayon_machine_places.specs.declared.state.Whereabouts.TheVariants.{InDeque, InFifo, Injected, Retaken, Running, InCast}
+use Rattle.rayon_machine_runs.specs.declared.state.Whereabouts.TheVariants.{InDeque, InFifo, Injected, Retaken, Running, InCast}
 use Rattle.rayon_machine_laws.specs.Once.{IsOnce, in_deque, in_injector, one, times, in_cast}
-use Rattle.rayon_machine_places.specs.declared.state.Job.{Job}
+use Rattle.rayon_machine_runs.specs.declared.state.Job.{Job}
 use Rattle.rayon_machine_places.specs.declared.place.JobKind.{JobKind}
 use Rattle.rayon_machine_places.specs.declared.act.Seen.TheVariants.{Missing}
 use Rattle.rayon_machine_places.specs.declared.shape.Order.{Order}
@@ -26,14 +28,14 @@ use Rattle.rayon_machine_laws.proofs.Claims.{call_kind, Says, SaysPlan, queue_pl
 use Rattle.rayon_machine_places.specs.declared.act.Seen.{Seen}
 use Rattle.rayon_machine_laws.proofs.Later.{Static, act_static}
 use Rattle.rayon_machine_places.specs.declared.place.JobKind.TheVariants.{TokenOf}
-use Rattle.rayon_machine_places.specs.declared.state.Whereabouts.{Whereabouts}
+use Rattle.rayon_machine_runs.specs.declared.state.Whereabouts.{Whereabouts}
 use Rattle.rayon_machine_places.specs.Places.{act_of, count_book, count_kind, is_member, own_index, own_pool, plan_job, plan_pool, same_party, plan_book}
 use Rattle.rayon_machine_laws.proofs.Located.{and_false}
 use Rattle.rayon_machine_laws.proofs.Frame.{either, if_cond, if_some_and, if_some_map, out_sees, same_index, same_list_true, same_party_refl, undo_sees}
 use Rattle.rayon_machine_laws.proofs.Feeders.{list_at, waits}
 use Rattle.rayon_machine_laws.proofs.Ties.{job_at}
 use Rattle.rayon_machine_laws.proofs.Placed.{outcome_of}
-use Rattle.rayon_machine_places.specs.Steps.{part_of}
+use Rattle.rayon_machine_runs.specs.Steps.{part_of}
 use Rattle.rayon_machine_laws.proofs.ClaimRuns.{place_part}
 
 -- a job is a token of this worker and this list

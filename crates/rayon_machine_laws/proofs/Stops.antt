@@ -13,14 +13,15 @@ use Rattle.rayon_machine_places.specs.declared.place.Latch.TheVariants.{Terminat
 use Rattle.rayon_machine_places.specs.declared.place.Place.{Place}
 use Rattle.rayon_machine_places.specs.declared.place.Place.TheVariants.{ProbeWorking, ProbeIdle, Free, Stopped}
 use Rattle.rayon_machine_places.specs.declared.act.Seen.{Seen}
-use Rattle.rayon_machine_places.specs.declared.event.Event.{Event}
-use Rattle.rayon_machine_places.specs.declared.event.Event.TheVariants.{Go}
-use Rattle.rayon_machine_places.specs.declared.state.Letter.{Letter}
-use Rattle.rayon_machine_places.specs.declared.state.Letter.TheVariants.{Set as IsSet}
+use Rattle.rayon_machine_runs.specs.declared.event.Event.{Event}
+use Rattle.rayon_machine_runs.specs.declared.event.Event.TheVariants.{Go}
+use Rattle.rayon_machine_runs.specs.declared.state.Letter.{Letter}
+use Rattle.rayon_machine_runs.specs.declared.state.Letter.TheVariants.{Set as IsSet}
 use Rattle.rayon_machine_places.specs.Places.{act_of, next_of, own_pool, own_index, latch_of, after_wait, fresh, same_party}
-use Rattle.rayon_machine_places.specs.World.{Shape, Stack, World, Part, target_pool, target_worker, target_call, call_of, letter, is_set}
-use Rattle.rayon_machine_places.specs.Steps.{part_of, after_move, step}
-use Rattle.rayon_machine_places.specs.Runs.{IsRun, start, first_place}
+use Rattle.rayon_machine_runs.specs.World.{Shape, Stack, World, Part, letter, is_set}
+use Rattle.rayon_machine_places.specs.Targets.{target_pool, target_worker, target_call, call_of}
+use Rattle.rayon_machine_runs.specs.Steps.{part_of, after_move, step}
+use Rattle.rayon_machine_runs.specs.Runs.{IsRun, start, first_place}
 use Rattle.rayon_machine_laws.specs.Attended.{letter_at}
 use Rattle.rayon_machine_laws.specs.Latch.{SetsSo}
 use Rattle.rayon_machine_laws.specs.Letters.{StopsOnSet}

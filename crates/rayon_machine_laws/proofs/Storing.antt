@@ -35,13 +35,14 @@ use Rattle.rayon_machine_places.specs.declared.place.OpenCall.{OpenCall}
 use Rattle.rayon_machine_places.specs.declared.place.Settling.{Settling}
 use Rattle.rayon_machine_places.specs.declared.act.Seen.{Seen}
 use Rattle.rayon_machine_places.specs.declared.act.Seen.TheVariants.{Done, Refused, Yes, No, Task}
-use Rattle.rayon_machine_places.specs.declared.state.Whereabouts.{Whereabouts}
-use Rattle.rayon_machine_places.specs.declared.state.Whereabouts.TheVariants.{Over, HandedBack, Spent}
-use Rattle.rayon_machine_places.specs.declared.state.Job.{Job}
+use Rattle.rayon_machine_runs.specs.declared.state.Whereabouts.{Whereabouts}
+use Rattle.rayon_machine_runs.specs.declared.state.Whereabouts.TheVariants.{Over, HandedBack, Spent}
+use Rattle.rayon_machine_runs.specs.declared.state.Job.{Job}
 use Rattle.rayon_machine_places.specs.declared.shape.PoolShape.{PoolShape}
 use Rattle.rayon_machine_places.specs.Places.{act_of, next_of, finish, after_set, begin_cast, begin_feed, ends_count, withdraw, count_book, plan_book, taken_number, end_cast}
-use Rattle.rayon_machine_places.specs.World.{Shape, Counts, Part, at_job, begun, effect, raised, lowered, count_in, found, first_fault, lowest_fault, with_piece, put_body, put_slot, put_piece}
-use Rattle.rayon_machine_places.specs.Steps.{put, jobs_after, is_piece, mark_pieces, marked}
+use Rattle.rayon_machine_runs.specs.World.{Shape, Part, at_job, begun, effect, raised, lowered, count_in, found, first_fault, lowest_fault, with_piece, put_body, put_slot, put_piece}
+use Rattle.rayon_machine_places.specs.Sleepers.{Counts}
+use Rattle.rayon_machine_runs.specs.Steps.{put, jobs_after, is_piece, mark_pieces, marked}
 use Rattle.rayon_machine_laws.specs.Once.{one}
 use Rattle.rayon_machine_laws.proofs.Acts.{JobCounted, KeptFault, Cell, writes_at, keeps}
 use Rattle.rayon_machine_laws.proofs.Frame.{either, if_some_all, if_some_map, put_same, book_sees}

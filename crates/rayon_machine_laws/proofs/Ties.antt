@@ -14,8 +14,10 @@ use Rattle.rayon_machine_places.specs.declared.shape.PoolShape.{PoolShape}
 use Rattle.rayon_machine_laws.proofs.Frame.{either, if_none, if_some_all, if_some_each, if_some_map, not_same, same_index, same_party_true, same_refl}
 use Rattle.rayon_machine_laws.proofs.Seats.{Goes, OkAt, SeatOk, at_home, frame_out, is_frame, mode, other_keeps, out_goes, own_keeps, set_goes, settled_out}
 use Rattle.rayon_machine_places.specs.Places.{act_of, next_of, same_party, after_set}
-use Rattle.rayon_machine_places.specs.Steps.{after, part_of, after_move}
-use Rattle.rayon_machine_places.specs.World.{Counts, Outcome, Part, Pool, Seat, Shape, Stack, World, counts_at, effect, target_call, target_job, target_pool, target_worker}
+use Rattle.rayon_machine_runs.specs.Steps.{after, part_of, after_move}
+use Rattle.rayon_machine_places.specs.Sleepers.{Counts}
+use Rattle.rayon_machine_runs.specs.World.{Outcome, Part, Pool, Seat, Shape, Stack, World, counts_at, effect, target_job}
+use Rattle.rayon_machine_places.specs.Targets.{target_call, target_pool, target_worker}
 
 --
 -- To show that each act keeps a fact of one worker's place and seat, take the fact as a `Tie` and give

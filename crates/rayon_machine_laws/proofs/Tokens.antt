@@ -4,7 +4,7 @@
 -- uncounted. A gain is `tokens_gain`, a giving back `tokens_pay`; else it moves or stays (`tokens_keep`). How many
 -- pieces there are is a sum too (`pieces_below`).
 use Rattle.rayon_machine_laws.specs.Once.{one}
-use Rattle.rayon_machine_places.specs.Steps.{is_piece}
+use Rattle.rayon_machine_runs.specs.Steps.{is_piece}
 use Rattle.rayon_machine_places.specs.declared.place.Pieces.{Pieces}
 use Rattle.std.proofs.Common.{arith, refl, sym, ◌∙◌, ap, subst, inl, inr}
 use Rattle.std.specs.Prelude.{ℕ, zero, suc, Bool, true, false, ◌+◌, ◌==◌, ◌≤◌, ◌<◌, ◌≡◌, ◌-◌}

@@ -26,8 +26,9 @@ use Rattle.rayon_machine_places.specs.declared.act.Seen.TheVariants.{Yes, Done, 
 use Rattle.rayon_machine_places.specs.declared.shape.PoolShape.{PoolShape}
 use Rattle.rayon_machine_places.specs.declared.place.Settling.{Settling}
 use Rattle.rayon_machine_places.specs.Places.{finish, walk, settle, after_set, act_of, next_of, after_begin, taken_back, withdraw, count_book, taken_number}
-use Rattle.rayon_machine_places.specs.World.{Shape, World, Counts, Part, effect}
-use Rattle.rayon_machine_places.specs.Steps.{after_move}
+use Rattle.rayon_machine_runs.specs.World.{Shape, World, Part, effect}
+use Rattle.rayon_machine_places.specs.Sleepers.{Counts}
+use Rattle.rayon_machine_runs.specs.Steps.{after_move}
 use Rattle.rayon_machine_laws.proofs.Frame.{if_some_all}
 use Rattle.rayon_machine_laws.proofs.Seats.{is_frame}
 use Rattle.rayon_machine_laws.proofs.Ties.{AllFrames}

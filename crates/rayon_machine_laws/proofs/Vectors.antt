@@ -10,14 +10,14 @@ use Rattle.rayon_machine_places.specs.declared.place.Latch.TheVariants.{Terminat
 use Rattle.rayon_machine_places.specs.declared.place.Place.TheVariants.{Free, Stopped}
 use Rattle.rayon_machine_places.specs.declared.act.Act.{Act}
 use Rattle.rayon_machine_places.specs.declared.act.Act.TheVariants.{Probe, TakeCast, PopInj, Lock, Wakeup, Begin, Idle}
-use Rattle.rayon_machine_places.specs.declared.event.Event.{Event}
-use Rattle.rayon_machine_places.specs.declared.event.Event.TheVariants.{Go, Refuse, Miss, End, Spawn, Fifo, Install, Join, Scope, IntoSpawn, YieldLocal, EndPool}
-use Rattle.rayon_machine_places.specs.declared.state.Whereabouts.TheVariants.{Over}
+use Rattle.rayon_machine_runs.specs.declared.event.Event.{Event}
+use Rattle.rayon_machine_runs.specs.declared.event.Event.TheVariants.{Go, Refuse, Miss, End, Spawn, Fifo, Install, Join, Scope, IntoSpawn, YieldLocal, EndPool}
+use Rattle.rayon_machine_runs.specs.declared.state.Whereabouts.TheVariants.{Over}
 use Rattle.rayon_machine_places.specs.Places.{act_of, is_free}
-use Rattle.rayon_machine_places.specs.Readers.{is_done, is_job_that, is_queued, is_running, jobs_that}
-use Rattle.rayon_machine_places.specs.Runs.{start}
-use Rattle.rayon_machine_places.specs.Steps.{step}
-use Rattle.rayon_machine_places.specs.World.{Shape, World, counts_at}
+use Rattle.rayon_machine_runs.specs.Readers.{is_done, is_job_that, is_queued, is_running, jobs_that}
+use Rattle.rayon_machine_runs.specs.Runs.{start}
+use Rattle.rayon_machine_runs.specs.Steps.{step}
+use Rattle.rayon_machine_runs.specs.World.{Shape, World, counts_at}
 
 abbrev then_step : Option World → Event → Option World
 then_step None e = None

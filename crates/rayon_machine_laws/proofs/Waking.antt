@@ -11,8 +11,10 @@ use Rattle.rayon_machine_places.specs.declared.act.Seen.TheVariants.{Yes, No}
 use Rattle.rayon_machine_places.specs.declared.place.Walk.{Walk}
 use Rattle.rayon_machine_places.specs.declared.place.Settling.{Settling}
 use Rattle.rayon_machine_places.specs.Places.{same_party, act_of}
-use Rattle.rayon_machine_places.specs.World.{Shape, Seat, Stack, World, Counts, Part, target_pool, target_worker, effect}
-use Rattle.rayon_machine_places.specs.Steps.{after_move}
+use Rattle.rayon_machine_runs.specs.World.{Shape, Seat, Stack, World, Part, effect}
+use Rattle.rayon_machine_places.specs.Sleepers.{Counts}
+use Rattle.rayon_machine_places.specs.Targets.{target_pool, target_worker}
+use Rattle.rayon_machine_runs.specs.Steps.{after_move}
 use Rattle.rayon_machine_laws.specs.Committed.{is_blocking, is_committed, is_looking}
 use Rattle.rayon_machine_laws.specs.Attended.{is_filled, HasLooker}
 use Rattle.rayon_machine_laws.proofs.Attend.{owes, HasOwing, Attended, looks_from, looks_parts, filled_put}

@@ -15,10 +15,10 @@ use Rattle.rayon_machine_places.specs.declared.place.Then.TheVariants.{Called, G
 use Rattle.rayon_machine_places.specs.declared.place.Place.{Place}
 use Rattle.rayon_machine_places.specs.declared.place.Place.TheVariants.{RelockOwn, TellNews, LockToWake, WakeWorker, UnlockWoken, LockToSettle, WakeSettled}
 use Rattle.rayon_machine_places.specs.declared.place.Wait.{Wait}
-use Rattle.rayon_machine_places.specs.declared.state.Letter.{Letter}
-use Rattle.rayon_machine_places.specs.declared.state.Letter.TheVariants.{Set}
+use Rattle.rayon_machine_runs.specs.declared.state.Letter.{Letter}
+use Rattle.rayon_machine_runs.specs.declared.state.Letter.TheVariants.{Set}
 use Rattle.rayon_machine_places.specs.Places.{is_member, latch_of, plan_pool}
-use Rattle.rayon_machine_places.specs.World.{World}
+use Rattle.rayon_machine_runs.specs.World.{World}
 use Rattle.rayon_machine_laws.specs.Committed.{is_committed, is_looking}
 
 -- a list of tasks has one

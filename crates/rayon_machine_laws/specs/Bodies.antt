@@ -9,7 +9,7 @@ use Rattle.rayon_machine_places.specs.declared.place.Then.{Then}
 use Rattle.rayon_machine_places.specs.declared.place.Then.TheVariants.{GiveBack}
 use Rattle.rayon_machine_places.specs.declared.place.Place.{Place}
 use Rattle.rayon_machine_places.specs.declared.place.Place.TheVariants.{RaiseCount, GrowCall, GrowScope, OpenSlot, CloseSlot, LookQueue, PushJob, ScopeBody, StoreBody, LowerCount, SetLatch, LockToSettle, WakeSettled, UnlockSettled, SetLockLatch}
-use Rattle.rayon_machine_places.specs.World.{Stack}
+use Rattle.rayon_machine_runs.specs.World.{Stack}
 use Rattle.rayon_machine_laws.specs.Once.{one}
 
 -- a share of this count is one of call c's

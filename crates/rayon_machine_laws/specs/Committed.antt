@@ -3,7 +3,7 @@ use Rattle.std.specs.Prelude.{ℕ, Bool, true, false, not, ◌&&◌, ◌||◌, S
 use Rattle.rayon_machine_places.specs.declared.place.Party.TheVariants.{Worker}
 use Rattle.rayon_machine_places.specs.declared.place.Place.{Place}
 use Rattle.rayon_machine_places.specs.declared.place.Place.TheVariants.{BlockSelf}
-use Rattle.rayon_machine_places.specs.World.{World}
+use Rattle.rayon_machine_runs.specs.World.{World}
 
 -- a worker that is about to block itself
 abbrev pub is_blocking : Place → Bool

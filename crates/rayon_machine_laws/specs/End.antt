@@ -6,7 +6,7 @@
 -- - `IsEnd`: `caller_passes_a_latch_that_is_not_set` (WrongMachines), `join_skips_second_side` (CountTeeth),
 --   `piece_is_stored_after_its_lower` (PieceTeeth).
 -- - `IsRefused`: `refused_token_leaves_its_job` (ListTeeth).
-use Rattle.rayon_machine_places.specs.Steps.{is_piece}
+use Rattle.rayon_machine_runs.specs.Steps.{is_piece}
 use Rattle.rayon_machine_places.specs.declared.place.Pieces.{Pieces}
 use Rattle.std.specs.Prelude.{ℕ, false, ◌+◌, Option, Some, None, ◌≡◌, ◌≤◌, ◌<◌, ◌⊎◌, ⊤, true}
 use Rattle.rayon_machine_places.specs.declared.place.Party.{Party}
@@ -20,9 +20,9 @@ use Rattle.rayon_machine_places.specs.declared.place.Then.{Then}
 use Rattle.rayon_machine_places.specs.declared.place.Then.TheVariants.{Answers, Missing, Ran, GiveBack}
 use Rattle.rayon_machine_places.specs.declared.place.Place.{Place}
 use Rattle.rayon_machine_places.specs.declared.place.Place.TheVariants.{TakeResult, LowerCount, SetLatch, LockToSettle, WakeSettled, UnlockSettled, LowerForAll, SetLockLatch}
-use Rattle.rayon_machine_places.specs.declared.state.Whereabouts.TheVariants.{Over, HandedBack}
+use Rattle.rayon_machine_runs.specs.declared.state.Whereabouts.TheVariants.{Over, HandedBack}
 use Rattle.rayon_machine_places.specs.declared.place.OpenCall.{OpenCall}
-use Rattle.rayon_machine_places.specs.World.{World}
+use Rattle.rayon_machine_runs.specs.World.{World}
 use Rattle.rayon_machine_laws.specs.Once.{times}
 
 -- a job has run once, and its run has ended so

@@ -7,12 +7,12 @@ use Rattle.rayon_machine_places.specs.declared.place.Party.{Party}
 use Rattle.rayon_machine_places.specs.declared.place.Ending.{Ending}
 use Rattle.rayon_machine_places.specs.declared.place.JobKind.{JobKind}
 use Rattle.rayon_machine_places.specs.declared.place.Place.TheVariants.{Run}
-use Rattle.rayon_machine_places.specs.declared.event.Event.{Event}
-use Rattle.rayon_machine_places.specs.declared.event.Event.TheVariants.{Go, End}
-use Rattle.rayon_machine_places.specs.declared.state.Whereabouts.TheVariants.{Over}
-use Rattle.rayon_machine_places.specs.World.{Shape, World}
-use Rattle.rayon_machine_places.specs.Steps.{step}
-use Rattle.rayon_machine_places.specs.Runs.{IsRun, start}
+use Rattle.rayon_machine_runs.specs.declared.event.Event.{Event}
+use Rattle.rayon_machine_runs.specs.declared.event.Event.TheVariants.{Go, End}
+use Rattle.rayon_machine_runs.specs.declared.state.Whereabouts.TheVariants.{Over}
+use Rattle.rayon_machine_runs.specs.World.{Shape, World}
+use Rattle.rayon_machine_runs.specs.Steps.{step}
+use Rattle.rayon_machine_runs.specs.Runs.{IsRun, start}
 
 -- the party's act begins the job's run: the party stands at that run then
 pub record Begins (v : World) (e : Event) (t : ℕ) : Type 0 where

@@ -3,12 +3,12 @@
 -- Broken by the wrong machines, in `rayon_machine_orders/proofs`: `piece_forgets_its_worker` (CastTeeth),
 -- `other_number_is_filled` (RecordTeeth).
 use Rattle.std.specs.Prelude.{ℕ, Bool, true, false, ◌==◌, ◌<◌, Some, List, ◌≡◌}
-use Rattle.rayon_machine_places.specs.declared.event.Event.{Event}
-use Rattle.rayon_machine_places.specs.declared.state.Slot.{Slot}
-use Rattle.rayon_machine_places.specs.declared.state.Slot.TheVariants.{Closed, Open, Filled}
-use Rattle.rayon_machine_places.specs.World.{Shape, World}
-use Rattle.rayon_machine_places.specs.Steps.{step}
-use Rattle.rayon_machine_places.specs.Runs.{IsRun, start}
+use Rattle.rayon_machine_runs.specs.declared.event.Event.{Event}
+use Rattle.rayon_machine_runs.specs.declared.state.Slot.{Slot}
+use Rattle.rayon_machine_runs.specs.declared.state.Slot.TheVariants.{Closed, Open, Filled}
+use Rattle.rayon_machine_runs.specs.World.{Shape, World}
+use Rattle.rayon_machine_runs.specs.Steps.{step}
+use Rattle.rayon_machine_runs.specs.Runs.{IsRun, start}
 
 -- a job's number of a book, before a step and after it: one that has none may be given one; one that is open stays, is
 -- filled, or is taken back; and one that is filled stays

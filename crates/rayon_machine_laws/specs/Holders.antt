@@ -8,12 +8,13 @@ use Rattle.rayon_machine_places.specs.declared.place.Place.{Place}
 use Rattle.rayon_machine_places.specs.declared.place.Place.TheVariants.{FallAsleep, LoadCounters, AddSleeping, LookAtCast, LookAtInjector, BlockSelf, UndoSleeping, WakeUp, UnlockOwn, WakeWorker, UnlockWoken, WakeSettled, UnlockSettled, LookQueue, PushJob, CloseSlot, AddToFifo, LookForToken, PushToken, TakeFromFifo, PushForAll, CloseForAll}
 use Rattle.rayon_machine_places.specs.declared.act.Act.{Act}
 use Rattle.rayon_machine_places.specs.declared.act.Act.TheVariants.{Lock, Unlock, FifoIn, FifoUndo, FifoOut, Slot, SlotUndo, SlotAll, SlotUndoAll, StoreBody as PutBody, StoreSlot as PutSlot}
-use Rattle.rayon_machine_places.specs.declared.event.Event.{Event}
-use Rattle.rayon_machine_places.specs.declared.event.Event.TheVariants.{Go}
+use Rattle.rayon_machine_runs.specs.declared.event.Event.{Event}
+use Rattle.rayon_machine_runs.specs.declared.event.Event.TheVariants.{Go}
 use Rattle.rayon_machine_places.specs.Places.{act_of, plan_book, count_book, count_call, own_pool, own_index}
-use Rattle.rayon_machine_places.specs.World.{Shape, World, is_own, is_free_lock, is_held_by, is_open, same_list}
-use Rattle.rayon_machine_places.specs.Steps.{step}
-use Rattle.rayon_machine_places.specs.Runs.{IsRun, start}
+use Rattle.rayon_machine_runs.specs.World.{Shape, World, is_free_lock, is_held_by, is_open, same_list}
+use Rattle.rayon_machine_places.specs.Targets.{is_own}
+use Rattle.rayon_machine_runs.specs.Steps.{step}
+use Rattle.rayon_machine_runs.specs.Runs.{IsRun, start}
 
 -- where a party stands between its Lock of the sleep lock of worker i of pool p and its Unlock or Block: at its own lock,
 -- or at that of a worker whom it wakes

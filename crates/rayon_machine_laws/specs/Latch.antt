@@ -10,22 +10,22 @@ use Rattle.rayon_machine_laws.specs.End.{CastTakes}
 use Rattle.std.specs.Prelude.{ℕ, Bool, true, Some, ◌≡◌, false, ◌⊎◌, ◌+◌, ◌≤◌, ◌==◌, ◌&&◌, List, [], ◌∷◌}
 use Rattle.rayon_machine_places.specs.declared.place.Ending.{Ending}
 use Rattle.rayon_machine_places.specs.declared.place.Ending.TheVariants.{Fine}
-use Rattle.rayon_machine_places.specs.declared.state.Letter.TheVariants.{Set as IsSet}
-use Rattle.rayon_machine_places.specs.declared.state.Whereabouts.TheVariants.{Over}
+use Rattle.rayon_machine_runs.specs.declared.state.Letter.TheVariants.{Set as IsSet}
+use Rattle.rayon_machine_runs.specs.declared.state.Whereabouts.TheVariants.{Over}
 use Rattle.rayon_machine_places.specs.declared.place.Latch.{Latch}
 use Rattle.rayon_machine_places.specs.declared.place.Latch.TheVariants.{Terminate, OfCall}
 use Rattle.rayon_machine_places.specs.declared.place.Place.{Place}
 use Rattle.rayon_machine_places.specs.declared.act.Act.{Act}
 use Rattle.rayon_machine_places.specs.declared.act.Act.TheVariants.{Set, LockSet}
-use Rattle.rayon_machine_places.specs.declared.event.Event.{Event}
-use Rattle.rayon_machine_places.specs.declared.event.Event.TheVariants.{Go}
+use Rattle.rayon_machine_runs.specs.declared.event.Event.{Event}
+use Rattle.rayon_machine_runs.specs.declared.event.Event.TheVariants.{Go}
 use Rattle.rayon_machine_places.specs.Places.{act_of}
-use Rattle.rayon_machine_places.specs.World.{Shape, Stack, World, told}
-use Rattle.rayon_machine_places.specs.Steps.{step}
-use Rattle.rayon_machine_places.specs.Runs.{IsRun, start}
+use Rattle.rayon_machine_runs.specs.World.{Shape, Stack, World, told}
+use Rattle.rayon_machine_runs.specs.Steps.{step}
+use Rattle.rayon_machine_runs.specs.Runs.{IsRun, start}
 use Rattle.rayon_machine_laws.specs.Attended.{letter_at}
 use Rattle.rayon_machine_laws.specs.Once.{one}
-use Rattle.rayon_machine_places.specs.Readers.{is_done}
+use Rattle.rayon_machine_runs.specs.Readers.{is_done}
 
 -- a piece of this call's broadcast has ended so
 pub record PieceEnded (w : World) (c : ℕ) (e : Ending) : Type 0 where

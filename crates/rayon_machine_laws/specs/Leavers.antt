@@ -7,12 +7,12 @@ use Rattle.rayon_machine_places.specs.declared.place.Party.{Party}
 use Rattle.rayon_machine_places.specs.declared.place.Place.{Place}
 use Rattle.rayon_machine_places.specs.declared.place.Place.TheVariants.{LockToWake, WakeWorker, UnlockWoken}
 use Rattle.rayon_machine_places.specs.declared.act.Act.TheVariants.{SubInactive, News}
-use Rattle.rayon_machine_places.specs.declared.event.Event.{Event}
-use Rattle.rayon_machine_places.specs.declared.event.Event.TheVariants.{Go}
+use Rattle.rayon_machine_runs.specs.declared.event.Event.{Event}
+use Rattle.rayon_machine_runs.specs.declared.event.Event.TheVariants.{Go}
 use Rattle.rayon_machine_places.specs.Places.{act_of, own_pool}
-use Rattle.rayon_machine_places.specs.World.{Shape, World, counts_at}
-use Rattle.rayon_machine_places.specs.Steps.{step}
-use Rattle.rayon_machine_places.specs.Runs.{IsRun, start}
+use Rattle.rayon_machine_runs.specs.World.{Shape, World, counts_at}
+use Rattle.rayon_machine_runs.specs.Steps.{step}
+use Rattle.rayon_machine_runs.specs.Runs.{IsRun, start}
 
 -- how many wakes a party that stands here owes to this pool
 abbrev pub owed_at : ℕ → Place → ℕ

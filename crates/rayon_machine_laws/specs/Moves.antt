@@ -5,14 +5,14 @@
 use Rattle.std.specs.Prelude.{ℕ, Bool, true, false, ◌&&◌, ◌<◌, Some, List, ◌≡◌, ◌⊎◌}
 use Rattle.rayon_machine_places.specs.declared.place.Party.{Party}
 use Rattle.rayon_machine_places.specs.declared.place.Ending.{Ending}
-use Rattle.rayon_machine_places.specs.declared.event.Event.{Event}
-use Rattle.rayon_machine_places.specs.declared.event.Event.TheVariants.{Go, End}
-use Rattle.rayon_machine_places.specs.declared.state.Whereabouts.{Whereabouts}
-use Rattle.rayon_machine_places.specs.declared.state.Whereabouts.TheVariants.{Made, InDeque, Injected, InFifo, InCast, Retaken, Running, Over, HandedBack, Spent}
+use Rattle.rayon_machine_runs.specs.declared.event.Event.{Event}
+use Rattle.rayon_machine_runs.specs.declared.event.Event.TheVariants.{Go, End}
+use Rattle.rayon_machine_runs.specs.declared.state.Whereabouts.{Whereabouts}
+use Rattle.rayon_machine_runs.specs.declared.state.Whereabouts.TheVariants.{Made, InDeque, Injected, InFifo, InCast, Retaken, Running, Over, HandedBack, Spent}
 use Rattle.rayon_machine_places.specs.Places.{same_party}
-use Rattle.rayon_machine_places.specs.World.{Shape, World}
-use Rattle.rayon_machine_places.specs.Steps.{step}
-use Rattle.rayon_machine_places.specs.Runs.{IsRun, start}
+use Rattle.rayon_machine_runs.specs.World.{Shape, World}
+use Rattle.rayon_machine_runs.specs.Steps.{step}
+use Rattle.rayon_machine_runs.specs.Runs.{IsRun, start}
 
 -- where an act of this party may bring a job, a row for each way: what the party's call has made is queued, begun or
 -- handed back; what is queued is taken by the party, to be run; what stands in a FIFO list is taken back too, and then

@@ -16,12 +16,12 @@ use Rattle.rayon_machine_places.specs.declared.place.Then.{Then}
 use Rattle.rayon_machine_places.specs.declared.place.Then.TheVariants.{BeginFound, RunFirst, GiveBack}
 use Rattle.rayon_machine_places.specs.declared.place.Place.{Place}
 use Rattle.rayon_machine_places.specs.declared.place.Place.TheVariants.{LeaveSearch, BeginTask, BeginHere, Run, RaiseCount, GrowCall, LookQueue, PushJob, AddToFifo, LookForToken, PushToken, TakeFromFifo, RaiseForAll, PushForAll, LowerForAll, TellNews, LockToWake, WakeWorker, UnlockWoken, LowerCount, SetLatch, LockToSettle, WakeSettled, UnlockSettled, GrowScope, OpenSlot, CloseSlot, SetLockLatch, OpenForAll, CloseForAll, GrowCast, DealPieces}
-use Rattle.rayon_machine_places.specs.declared.state.Whereabouts.{Whereabouts}
-use Rattle.rayon_machine_places.specs.declared.state.Whereabouts.TheVariants.{Nowhere, Made, InDeque, Injected, InFifo, InCast, Retaken, Running, Over}
+use Rattle.rayon_machine_runs.specs.declared.state.Whereabouts.{Whereabouts}
+use Rattle.rayon_machine_runs.specs.declared.state.Whereabouts.TheVariants.{Nowhere, Made, InDeque, Injected, InFifo, InCast, Retaken, Running, Over}
 use Rattle.rayon_machine_places.specs.declared.act.Act.TheVariants.{FifoOut}
 use Rattle.rayon_machine_places.specs.Places.{same_party, taken_number, act_of, own_pool}
-use Rattle.rayon_machine_places.specs.World.{Stack, World, same_list}
-use Rattle.rayon_machine_places.specs.Steps.{is_piece}
+use Rattle.rayon_machine_runs.specs.World.{Stack, World, same_list}
+use Rattle.rayon_machine_runs.specs.Steps.{is_piece}
 
 -- 1 where the test holds, else 0
 abbrev pub one : Bool → ℕ

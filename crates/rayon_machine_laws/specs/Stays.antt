@@ -3,11 +3,11 @@
 -- Broken by the wrong machine `over_runs_again`, in `rayon_machine_orders/proofs` (AgainTeeth).
 use Rattle.std.specs.Prelude.{ℕ, Some, List, ◌≡◌}
 use Rattle.rayon_machine_places.specs.declared.place.Ending.{Ending}
-use Rattle.rayon_machine_places.specs.declared.event.Event.{Event}
-use Rattle.rayon_machine_places.specs.declared.state.Whereabouts.TheVariants.{HandedBack, Over, Spent}
-use Rattle.rayon_machine_places.specs.World.{Shape, World}
-use Rattle.rayon_machine_places.specs.Steps.{step}
-use Rattle.rayon_machine_places.specs.Runs.{IsRun, start}
+use Rattle.rayon_machine_runs.specs.declared.event.Event.{Event}
+use Rattle.rayon_machine_runs.specs.declared.state.Whereabouts.TheVariants.{HandedBack, Over, Spent}
+use Rattle.rayon_machine_runs.specs.World.{Shape, World}
+use Rattle.rayon_machine_runs.specs.Steps.{step}
+use Rattle.rayon_machine_runs.specs.Runs.{IsRun, start}
 
 -- a job that is over stays so, with the same ending; so does a token that is spent, and what was handed back
 pub record StaysOver (w v : World) (t : ℕ) : Type 0 where

@@ -1,7 +1,7 @@
 -- the last of a list, by its index
 use Rattle.std.proofs.Common.{◌≡◌, ℕ, zero, suc, ◌+◌, ◌-◌, List, [], ◌∷◌, length, refl, ap, arith, take, get_or}
 use Rattle.std.specs.Prelude.{Some}
-use Rattle.rayon_machine_places.specs.World.{but_last, last_of}
+use Rattle.rayon_machine_runs.specs.World.{but_last, last_of}
 
 but-take : (xs : List ℕ) (n : ℕ) → n + 1 ≡ length xs → take n xs ≡ but_last xs
 but-take [] n e = absurd (omega arith)

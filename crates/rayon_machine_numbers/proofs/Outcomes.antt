@@ -8,12 +8,14 @@ use Rattle.rayon_machine_places.specs.declared.act.Act.TheVariants.{PopOwn, Take
 use Rattle.rayon_machine_places.specs.declared.act.Seen.{Seen}
 use Rattle.rayon_machine_places.specs.declared.act.Seen.TheVariants.{Done, Handed, Missing, Task}
 use Rattle.rayon_machine_places.specs.declared.place.Taken.TheVariants.{Plain}
-use Rattle.rayon_machine_places.specs.declared.state.Whereabouts.TheVariants.{InFifo, Retaken}
+use Rattle.rayon_machine_runs.specs.declared.state.Whereabouts.TheVariants.{InFifo, Retaken}
 use Rattle.rayon_machine_places.specs.declared.shape.Order.{Order}
 use Rattle.rayon_machine_places.specs.declared.shape.Order.TheVariants.{NewestFirst, OldestFirst}
 use Rattle.rayon_machine_numbers.specs.declared.numbers.Touched.{Touched}
 use Rattle.rayon_machine_places.specs.Places.{own_pool, own_index}
-use Rattle.rayon_machine_places.specs.World.{Shape, Counts, Outcome, Part, begun, but_first, but_last, effect, empty_seen, fifo_back, fifo_first, head_of, last_of, left_by, own_left, own_of, at_job, is_open, popped, put_list, same_list, take_cast, taken_as}
+use Rattle.rayon_machine_runs.specs.World.{Shape, Outcome, Part, begun, but_first, but_last, effect, empty_seen, fifo_back, fifo_first, head_of, last_of, left_by, own_left, own_of, at_job, is_open, popped, put_list, same_list, take_cast}
+use Rattle.rayon_machine_places.specs.Sleepers.{Counts}
+use Rattle.rayon_machine_places.specs.Targets.{taken_as}
 use Rattle.rayon_machine_numbers.specs.Numbers.{Acts, Can, Does, DoesNot, FifoLists, undone, is_feeding, full, after_handle, is_booking, is_counting, is_queueing, is_sharing, look_sees, end_task, part_queued, after_take, with_job}
 
 list-true : (b c : Option ℕ) → same_list c b ≡ true → c ≡ b

@@ -13,10 +13,12 @@ use Rattle.rayon_machine_numbers.specs.declared.kind.Kind.{Kind}
 use Rattle.rayon_machine_numbers.specs.declared.kind.Kind.TheVariants.{Queueing, Feeding, Booking, Counting, Latching, Locking, Sharing}
 use Rattle.rayon_machine_places.specs.declared.place.Pieces.{Pieces}
 use Rattle.rayon_machine_places.specs.declared.shape.Order.{Order}
-use Rattle.rayon_machine_places.specs.declared.state.Whereabouts.TheVariants.{InDeque, Injected, Running}
-use Rattle.rayon_machine_places.specs.declared.state.Job.{Job}
+use Rattle.rayon_machine_runs.specs.declared.state.Whereabouts.TheVariants.{InDeque, Injected, Running}
+use Rattle.rayon_machine_runs.specs.declared.state.Job.{Job}
 use Rattle.rayon_machine_places.specs.Places.{own_pool, own_index, count_book}
-use Rattle.rayon_machine_places.specs.World.{Shape, Seat, Pool, Counts, Part, at_job, head_of, last_of, own_of, own_left, but_first, but_last, casts_with, taken_as, left_book, left_by, put_list, undealt_after, effect}
+use Rattle.rayon_machine_runs.specs.World.{Shape, Seat, Pool, Part, at_job, head_of, last_of, own_of, own_left, but_first, but_last, casts_with, left_book, left_by, put_list, undealt_after, effect}
+use Rattle.rayon_machine_places.specs.Sleepers.{Counts}
+use Rattle.rayon_machine_places.specs.Targets.{taken_as}
 
 -- the numbers of a census
 abbrev pub census_counts : Census → Counts

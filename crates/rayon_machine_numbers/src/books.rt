@@ -1,16 +1,17 @@
 //! What an act on the book of a scope sees, and how it leaves the numbers that it touches.
 ghost use Rattle.std.specs.Prelude.{◌≡◌, ℕ, true, IfErr, IfOk, Some, None, ◌-◌};
-ghost use Rattle.rayon_machine_places.specs.declared.state.Slot.TheVariants.{Closed};
+ghost use Rattle.rayon_machine_runs.specs.declared.state.Slot.TheVariants.{Closed};
 ghost use Rattle.rayon_machine_places.specs.declared.place.Party.{Party as AnyParty};
 ghost use Rattle.rayon_machine_places.specs.declared.act.Act.TheVariants.{Slot as OpenSlot, SlotAll, StorePiece};
-ghost use Rattle.rayon_machine_places.specs.World.{filled as filled_of, first_fault, is_open, lowest_fault, with_piece as with_piece_of, Counts, told as told_of};
+ghost use Rattle.rayon_machine_runs.specs.World.{filled as filled_of, first_fault, is_open, lowest_fault, with_piece as with_piece_of, told as told_of};
+ghost use Rattle.rayon_machine_places.specs.Sleepers.{Counts};
 ghost use Rattle.rayon_machine_numbers.specs.Numbers.{Can, Does, DoesNot, is_booking, with_dealt, with_left_book};
 
 use crate::numbers::{Outcome, Touched};
 use rayon_machine_places::act::{Act, Seen};
-use rayon_machine_places::error::StepError;
 use rayon_machine_places::place::{Count, Ending, Party, Pieces};
-use rayon_machine_places::state::{Call, Job, Slot};
+use rayon_machine_runs::error::StepError;
+use rayon_machine_runs::state::{Call, Job, Slot};
 
 /// The job whose fault a book keeps, once this job has ended so.
 fn kept_fault(kept: Option<u64>, job: u64, ending: Ending) -> Option<u64>

@@ -2,16 +2,17 @@
 //! one call and one job.
 ghost use Rattle.std.specs.Prelude.{◌≡◌, ℕ, true, IfErr, IfOk, min, List, ◌%◌, ◌^◌};
 ghost use Rattle.rayon_machine_places.specs.declared.place.Party.{Party as AnyParty};
-ghost use Rattle.rayon_machine_places.specs.World.{at_job, all_lowered as all_lowered_of, count_in, is_set as set_seen, body_stays as body_stays_of, call_less as call_less_of, job_stays as job_stays_of, lowered as lowered_of, pool_less as pool_less_of, value_stays as value_stays_of, letter as letter_of, wakes_for_one as wakes_of, with_letter as with_letter_of, Counts};
+ghost use Rattle.rayon_machine_runs.specs.World.{at_job, all_lowered as all_lowered_of, count_in, is_set as set_seen, body_stays as body_stays_of, call_less as call_less_of, job_stays as job_stays_of, lowered as lowered_of, pool_less as pool_less_of, value_stays as value_stays_of, letter as letter_of, with_letter as with_letter_of};
+ghost use Rattle.rayon_machine_places.specs.Sleepers.{wakes_for_one as wakes_of, Counts};
 ghost use Rattle.rayon_machine_numbers.specs.Numbers.{Can, Does, DoesNot, FifoLists, census_counts, full, is_counting, is_latching, is_locking, is_sharing};
 ghost use Rattle.rayon_machine_places.specs.declared.act.Seen.TheVariants.{Word};
 ghost use Rattle.rayon_machine_places.specs.declared.act.Act.TheVariants.{Announce, Asleep, Begin, Lock, Lower, LowerAll, News, Raise, RaiseAll, Set, Sleepy, Take, TryAdd, Unlock, Wake, Wakeup};
 
 use crate::books::told;
 use rayon_machine_places::act::{Act, Seen};
-use rayon_machine_places::error::StepError;
 use rayon_machine_places::place::{Count, Latch, Party, Pieces, Share};
-use rayon_machine_places::state::{Call, Job, Letter, Whereabouts};
+use rayon_machine_runs::error::StepError;
+use rayon_machine_runs::state::{Call, Job, Letter, Whereabouts};
 
 /// The numbers of a pool.
 #[derive(Clone, Copy)]

@@ -6,8 +6,8 @@ ghost use Rattle.rayon_machine_places.specs.declared.shape.Order.{Order as AnyOr
 use crate::kind::Kind;
 use crate::numbers::{Census, Touched};
 use rayon_machine_places::act::{Act, Seen};
-use rayon_machine_places::error::StepError;
 use rayon_machine_places::place::Party;
+use rayon_machine_runs::error::StepError;
 
 /// Whether an act looks at the counts of sleeping and inactive workers.
 /// It is the running world's own part, and not for users.

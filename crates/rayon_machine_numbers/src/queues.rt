@@ -2,14 +2,15 @@
 ghost use Rattle.std.specs.Prelude.{◌≡◌, ℕ, Option, true, IfErr, IfOk};
 ghost use Rattle.rayon_machine_places.specs.declared.shape.Order.{Order as AnyOrder};
 ghost use Rattle.rayon_machine_places.specs.declared.act.Act.TheVariants.{FifoOut, FifoUndo};
-ghost use Rattle.rayon_machine_places.specs.World.{but_first, but_last, head_of, last_of, is_open, Counts};
+ghost use Rattle.rayon_machine_runs.specs.World.{but_first, but_last, head_of, last_of, is_open};
+ghost use Rattle.rayon_machine_places.specs.Sleepers.{Counts};
 ghost use Rattle.rayon_machine_numbers.specs.Numbers.{Acts, Can, DoesNot, after_handle, after_take, is_feeding, with_left_book};
 
 use crate::numbers::{Outcome, Touched};
 use rayon_machine_places::act::{Act, Seen};
-use rayon_machine_places::error::StepError;
 use rayon_machine_places::place::{Party, Taken};
-use rayon_machine_places::state::Whereabouts;
+use rayon_machine_runs::error::StepError;
+use rayon_machine_runs::state::Whereabouts;
 use std::collections::VecDeque;
 
 /// The oldest task of a queue.

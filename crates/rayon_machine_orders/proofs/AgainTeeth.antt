@@ -18,13 +18,14 @@ use Rattle.rayon_machine_places.specs.declared.act.Act.{Act}
 use Rattle.rayon_machine_places.specs.declared.act.Act.TheVariants.{Begin, Lower}
 use Rattle.rayon_machine_places.specs.declared.act.Seen.{Seen}
 use Rattle.rayon_machine_places.specs.declared.act.Seen.TheVariants.{Done, No}
-use Rattle.rayon_machine_places.specs.declared.event.Event.{Event}
-use Rattle.rayon_machine_places.specs.declared.event.Event.TheVariants.{Go, End, Spawn, EndPool}
+use Rattle.rayon_machine_runs.specs.declared.event.Event.{Event}
+use Rattle.rayon_machine_runs.specs.declared.event.Event.TheVariants.{Go, End, Spawn, EndPool}
 use Rattle.rayon_machine_places.specs.declared.shape.PoolShape.{PoolShape}
-use Rattle.rayon_machine_places.specs.declared.state.Whereabouts.TheVariants.{HandedBack, Over, Running}
+use Rattle.rayon_machine_runs.specs.declared.state.Whereabouts.TheVariants.{HandedBack, Over, Running}
 use Rattle.rayon_machine_places.specs.Places.{act_of, is_free, next_of}
-use Rattle.rayon_machine_places.specs.World.{Shape, Stack, World, Counts, Part, Outcome, at_job, effect, lowered, target_job}
-use Rattle.rayon_machine_places.specs.Steps.{after_call, is_pool, put, put_stack, step}
+use Rattle.rayon_machine_runs.specs.World.{Shape, Stack, World, Part, Outcome, at_job, effect, lowered, target_job}
+use Rattle.rayon_machine_places.specs.Sleepers.{Counts}
+use Rattle.rayon_machine_runs.specs.Steps.{after_call, is_pool, put, put_stack, step}
 use Rattle.rayon_machine_laws.specs.Moves.{leads}
 use Rattle.rayon_machine_orders.specs.Values.{is_end_of}
 use Rattle.rayon_machine_orders.proofs.WrongMachines.{Machine, doing, making, run_by, times_go, two, a, c, right}

@@ -11,7 +11,7 @@ use Rattle.rayon_machine_orders.proofs.Words.{IntoCast, Broadcast, Over, Running
 use Rattle.rayon_machine_orders.proofs.Words.{Stack, World, at_job, put, put_stack, put_pieces, is_piece, with_stack, after_choice, after_refusal, can_miss, after_miss, after_resume, after_close, after_end, after_call, is_pool, new_job, new_piece, new_call, after_spawn, after_feed, after_fifo}
 use Rattle.rayon_machine_orders.proofs.Words.{after_cast, after_send, after_install, after_join, after_scope, holds, holds_in, after_yield, after_end_pool, step, after_gather, new_whole, after_enter, after_broadcast, after_deal, after_enter_fifo, new_gathering, start, first_place, IsRun, one}
 use Rattle.rayon_machine_orders.proofs.Words.{run_of, runs_in, ScopeEnded, is_scoped, is_of_scope, is_busy, slot_number, Count, Scope, Feeding}
-use Rattle.rayon_machine_places.specs.Steps.{after_enter_cast}
+use Rattle.rayon_machine_runs.specs.Steps.{after_enter_cast}
 use Rattle.rayon_machine_laws.proofs.Frame.{either, if_some_and, if_some_map, if_cond, and_parts, put_same, put_new, put_old, stack_mine, stack_other, piece_old, piece_out, piece_in, piece_new}
 use Rattle.rayon_machine_laws.proofs.Ties.{AllFrames, outcome, result}
 use Rattle.rayon_machine_laws.proofs.Seats.{is_frame}

@@ -9,7 +9,7 @@ use Rattle.rayon_machine_orders.proofs.Words.{BeginTask, PushToken, TakeFromFifo
 use Rattle.rayon_machine_orders.proofs.Words.{OpenCall, Job, own_pool, own_index, is_member, plan_pool, plan_job, plan_count, plan_book, count_book, gather_all, same_party, finish, settle, act_of, next_of, World, Part as Piece, count_in, count_pool, target_pool, target_worker, target_call}
 use Rattle.rayon_machine_orders.proofs.Words.{counts_at, at_job, found, effect, but_last, fifo_back, is_open, last_of, or_none, put, put_stack, part_of, jobs_after, after, after_move, is_queued, is_running, is_done, count_of, is_raise_refused, Feeding, Plain, Token, in_fifo, times, one, shares}
 use Rattle.rayon_machine_orders.proofs.Words.{shares_in, follows, Gathering, Dealt}
-use Rattle.rayon_machine_places.specs.World.{count_call, call_less}
+use Rattle.rayon_machine_runs.specs.World.{count_call, call_less}
 use Rattle.rayon_machine_laws.proofs.Frame.{if_some_all, put_new, put_same, either, if_cond, put_old, same_party_true, stack_mine, stack_other}
 use Rattle.rayon_machine_laws.proofs.Ties.{job_at, outcome}
 use Rattle.rayon_machine_laws.proofs.Claims.{Says, SaysThen}

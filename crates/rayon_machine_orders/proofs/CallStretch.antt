@@ -9,7 +9,7 @@ use Rattle.rayon_machine_orders.proofs.Words.{ℕ, Bool, true, false, ◌&&◌, 
 use Rattle.rayon_machine_orders.proofs.Words.{EnterAbove as Enter, StartRun, Back, HandBack, Discard, HandIn, Mark, HandAllBack, Seen, Event, Go, HandedBack, Job, plan_job, same_party, act_of, next_of, Stack, World, Part as Piece, target_pool, at_job, put, after_move, is_piece, marked}
 use Rattle.rayon_machine_orders.proofs.Words.{jobs_after, step, AllJobs, follows, is_at_call, is_raise_refused, is_refusal, IsHandedOn, IsSpent, OpenCall, Ending, Answers, Returned as HandedOut}
 use Rattle.rayon_machine_orders.proofs.FaultPlaces.{told_of}
-use Rattle.rayon_machine_places.specs.Steps.{handed_back}
+use Rattle.rayon_machine_runs.specs.Steps.{handed_back}
 use Rattle.rayon_machine_laws.proofs.Frame.{if_some_all, if_some_map, put_new, piece_new, same_party_true, same_party_refl, stack_mine, stack_other}
 use Rattle.rayon_machine_laws.proofs.Ties.{job_at, outcome, result}
 use Rattle.rayon_machine_laws.proofs.PlacedEvents.{Advance}

@@ -9,7 +9,7 @@ use Rattle.rayon_machine_orders.proofs.Words.{Install, Join, Yield, YieldLocal, 
 use Rattle.rayon_machine_orders.proofs.Words.{count_pool, count_in, is_open, put, after_move, after_choice, after_refusal, after_miss, after_end, after_call, after_spawn, after_feed, after_yield, after_into, is_pool, is_piece, mark_pieces, marked, part_of, put_pieces, new_piece, after_cast}
 use Rattle.rayon_machine_orders.proofs.Words.{after_deal, after_enter, after_enter_fifo, after_into_fifo, after_into_cast, holds, jobs_after, step, with_stack, is_queued, is_running, is_done, IsRun, start, IsRunUntil, is_at_call, is_any, count_of, scope_pool, IsHandedOn, StandsOn, belongs}
 use Rattle.rayon_machine_orders.proofs.Words.{own_push, push_in, pushes_of, caster_of, cast_pool, is_cast_refusal}
-use Rattle.rayon_machine_places.specs.World.{count_call}
+use Rattle.rayon_machine_runs.specs.World.{count_call}
 use Rattle.rayon_machine_orders.specs.Placed.{cast_once, DealtLaw, scope_count}
 use Rattle.rayon_machine_orders.proofs.Pushed.{nil_right}
 use Rattle.rayon_machine_orders.specs.Casts.{is_cast_refused, CastLaw}

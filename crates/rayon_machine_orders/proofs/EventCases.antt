@@ -4,7 +4,7 @@ use Rattle.rayon_machine_orders.proofs.Words.{ℕ, Bool, true, false, ◌&&◌, 
 use Rattle.rayon_machine_orders.proofs.Words.{after_choice, after_end, after_yield, can_miss, after_enter, after_call, after_feed, new_job, after_deal, after_gather, new_call, with_stack, World, Refused, Start, Event, Go, Spawn, End, OpenScope, Refuse, Fifo, IntoSpawn, Install, Join, Broadcast}
 use Rattle.rayon_machine_orders.proofs.Words.{Cast, EndPool, IntoFifo, IntoCast, Miss, From, YieldLocal, Yield, OfPool, OfScope, Ending, JobKind, Scoped, BodyOf, Direct, Detached, Stored, Party, Worker, Caller, Place, LowerCount, RaiseCount, StealFrom, Run, YieldPop, YieldSteal, LocalPop}
 use Rattle.rayon_machine_orders.proofs.Words.{PickVictim, YieldPick, Enter, Detach, Fork, Open, PoolValue, Resume, Scope, Wait}
-use Rattle.rayon_machine_places.specs.Steps.{seeing}
+use Rattle.rayon_machine_runs.specs.Steps.{seeing}
 use Rattle.rayon_machine_places.specs.declared.act.Seen.TheVariants.{Missing as Lacks}
 use Rattle.rayon_machine_laws.proofs.ClaimEvents.{ended_world}
 

@@ -8,7 +8,7 @@ use Rattle.rayon_machine_orders.proofs.Words.{ℕ, zero, suc, Bool, true, false,
 use Rattle.rayon_machine_orders.proofs.Words.{Enter, Gather, Count, OfPool, OfScope, OfCast, Share, PoolValue, OfJob, Body, Pieces, Gathering, OpenCall, Place, RaiseCount, LowerCount, PushJob, AddToFifo, RaiseForAll, LowerForAll, PushForAll, DealPieces, Move, HandBack, Seen, Done, Refused}
 use Rattle.rayon_machine_orders.proofs.Words.{Whereabouts, Over, HandedBack, Job, PoolShape, same_party, act_of, next_of, count_call, count_kind, count_book, Shape, Stack, World, Counts, counts_at, Part, target_pool, target_call, at_job, lowered, raised, casts_with, left_book, effect, put}
 use Rattle.rayon_machine_orders.proofs.Words.{put_stack, is_piece, after_move, jobs_after, is_done, one, is_detached, is_busy, body, bodies_in, all_bodies}
-use Rattle.rayon_machine_places.specs.World.{all_raised, undealt_after}
+use Rattle.rayon_machine_runs.specs.World.{all_raised, undealt_after}
 use Rattle.rayon_machine_laws.proofs.Frame.{either, if_some_and, if_some_map, if_some_all, put_new, stack_mine, stack_other}
 use Rattle.rayon_machine_laws.proofs.Ties.{job_at, outcome}
 use Rattle.rayon_machine_laws.proofs.PlacedEvents.{Advance, IsFinal}

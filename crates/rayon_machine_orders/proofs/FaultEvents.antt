@@ -21,7 +21,7 @@ use Rattle.rayon_machine_orders.proofs.FaultPlaces.{Told, answer_of}
 use Rattle.rayon_machine_orders.proofs.Faults.{Answered, FaultOf, FaultsHold, KeepsFor, call_bodied, hold_of, is_whole, of_scope, over_is, puts}
 use Rattle.rayon_machine_orders.proofs.FilledStates.{FilledHold}
 use Rattle.rayon_machine_orders.proofs.EventCases.{Cases, by_cases, is_act}
-use Rattle.rayon_machine_places.specs.Steps.{seeing}
+use Rattle.rayon_machine_runs.specs.Steps.{seeing}
 
 -- a call that an event makes
 pub record NewCall (w u : World) (c : ℕ) : Type 0 where

@@ -27,7 +27,7 @@ use Rattle.rayon_machine_orders.proofs.FaultPlaces.{SameFault, act_fault, answer
 use Rattle.rayon_machine_orders.proofs.FilledStates.{FilledHold}
 use Rattle.rayon_machine_orders.proofs.Takes.{number_is}
 use Rattle.rayon_machine_orders.specs.Faults.{KeepsFirst, KeepsLowest}
-use Rattle.rayon_machine_places.specs.World.{lowest_fault}
+use Rattle.rayon_machine_runs.specs.World.{lowest_fault}
 
 -- a number that stands for a broadcast
 abbrev pub is_whole : JobKind → Bool

@@ -5,7 +5,7 @@ use Rattle.rayon_machine_orders.proofs.Words.{PoolValue, OfJob, Body, Then, Piec
 use Rattle.rayon_machine_orders.proofs.Words.{No, IsSet, Whereabouts, Nowhere, Made, InDeque, Injected, InFifo, Running, Over, HandedBack, Spent, Retaken, InCast, PoolShape, OpenCall, same_party, act_of, next_of, taken_number, plan_count, count_kind, Shape, Stack, World, Counts, counts_at, Part}
 use Rattle.rayon_machine_orders.proofs.Words.{target_pool, target_call, Outcome, effect, count_in, is_open, put, put_stack, after_move, is_piece, one, has_body, is_of_scope, shares_in, shares, is_busy}
 use Rattle.rayon_machine_laws.proofs.Scoping.{ScopesHold, act_uncalled, acts_scopes, last_entry, is_counting, Uncalled, entry, entry_on}
-use Rattle.rayon_machine_places.specs.World.{count_call}
+use Rattle.rayon_machine_runs.specs.World.{count_call}
 use Rattle.rayon_machine_laws.proofs.Frame.{either, if_some_all, if_some_and, if_some_map, if_cond, put_same, put_new, stack_mine}
 use Rattle.rayon_machine_laws.proofs.Ties.{AllFrames, outcome, result}
 use Rattle.rayon_machine_laws.proofs.Tops.{Tops, FramesOk, top_after}

@@ -29,7 +29,7 @@ use Rattle.rayon_machine_laws.proofs.ShareEnds.{freed, closed_shares, step_share
 use Rattle.rayon_machine_orders.proofs.Takes.{set_found, set_then, set_lower, seen_set, lowers_now, sets_now, is_grown_well, says_missing, number_is}
 use Rattle.rayon_machine_orders.proofs.FilledStates.{IsSettled, IsNamed, IsTaken, FilledHold, is_ended, now_ended, settled_ended, unmade_ended, is_in}
 use Rattle.rayon_machine_orders.proofs.EventCases.{Cases, FreeAt}
-use Rattle.rayon_machine_places.specs.Steps.{seeing}
+use Rattle.rayon_machine_runs.specs.Steps.{seeing}
 use Rattle.rayon_machine_orders.proofs.Words.{is_refusable}
 use Rattle.rayon_machine_laws.proofs.ClaimEvents.{ended_world}
 

@@ -9,7 +9,7 @@ use Rattle.rayon_machine_orders.proofs.Words.{count_pool, put, put_stack, after_
 use Rattle.rayon_machine_orders.proofs.Words.{after_fifo, after_cast, put_pieces, new_piece, is_piece, mark_pieces, marked, after_scope, after_into, holds, after_enter, after_feed, after_deal, after_into_fifo, after_into_cast, after_broadcast, new_whole, new_gathering, start, IsRun, one}
 use Rattle.rayon_machine_orders.proofs.Words.{is_detached, keeps_own, has_share, all_values, KeptOnce, IsCounted, share, shares_in, shares, is_busy, Feeding, Gathering}
 use Rattle.rayon_machine_places.specs.declared.act.Seen.TheVariants.{Missing}
-use Rattle.rayon_machine_places.specs.World.{pool_more, pool_less}
+use Rattle.rayon_machine_runs.specs.World.{pool_more, pool_less}
 use Rattle.rayon_machine_laws.specs.Counted.{values, values_in}
 use Rattle.rayon_machine_laws.proofs.Frame.{either, same_party_true, if_some_and, if_some_map, if_cond, acted_keeps, put_same, put_old, stack_mine, after_counted, fifo_cases, is_sharing, piece_new, piece_old, piece_out, into_cases, into_fifo_cases, into_cast_cases, no_bare}
 use Rattle.rayon_machine_laws.proofs.Ties.{job_at, outcome}

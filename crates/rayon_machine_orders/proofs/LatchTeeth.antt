@@ -16,11 +16,12 @@ use Rattle.rayon_machine_places.specs.declared.act.Act.{Act}
 use Rattle.rayon_machine_places.specs.declared.act.Act.TheVariants.{Probe}
 use Rattle.rayon_machine_places.specs.declared.act.Seen.{Seen}
 use Rattle.rayon_machine_places.specs.declared.act.Seen.TheVariants.{Yes, No}
-use Rattle.rayon_machine_places.specs.declared.event.Event.{Event}
-use Rattle.rayon_machine_places.specs.declared.event.Event.TheVariants.{Go, End, EndPool, Join, Scope as OpenScope, IntoSpawn, Spawn}
+use Rattle.rayon_machine_runs.specs.declared.event.Event.{Event}
+use Rattle.rayon_machine_runs.specs.declared.event.Event.TheVariants.{Go, End, EndPool, Join, Scope as OpenScope, IntoSpawn, Spawn}
 use Rattle.rayon_machine_places.specs.declared.place.Party.{Party}
-use Rattle.rayon_machine_places.specs.declared.state.Letter.TheVariants.{Unset, Set as IsSet}
-use Rattle.rayon_machine_places.specs.World.{Shape, World, Counts, Part, Outcome, effect}
+use Rattle.rayon_machine_runs.specs.declared.state.Letter.TheVariants.{Unset, Set as IsSet}
+use Rattle.rayon_machine_runs.specs.World.{Shape, World, Part, Outcome, effect}
+use Rattle.rayon_machine_places.specs.Sleepers.{Counts}
 use Rattle.rayon_machine_laws.specs.Attended.{letter_at}
 use Rattle.rayon_machine_laws.specs.Latch.{setters}
 use Rattle.rayon_machine_orders.proofs.WrongMachines.{doing, leading, run_by, times_go, two, a, b, c, right}

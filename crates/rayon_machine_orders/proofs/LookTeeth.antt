@@ -4,7 +4,7 @@ use Rattle.std.proofs.Common.{arith, refl, sym, ◌∙◌, ap}
 use Rattle.rayon_machine_orders.proofs.Words.{ℕ, Bool, true, false, ◌-◌, Option, Some, None, List, [], ◌∷◌, ◌++◌, ◌≡◌, IfSome, Party, Worker, OfCast, Pieces, Fork, RunFirst, Place, GrowCall, LookQueue, PushJob, StealFrom, Move, Stay, Act, Idle, News, PushCast, PushInj, PushOwn, Steal, Seen}
 use Rattle.rayon_machine_orders.proofs.Words.{Done, Event, Go, Miss, Spawn, Join, Broadcast, IsOpen, PoolShape, finish, act_of, next_of, Stack, World, put_pieces, step, MissesOne, is_look, flag_of, queue_of, TellsSo, is_empty, pool_of, DealtFrom}
 use Rattle.rayon_machine_places.specs.declared.act.Seen.TheVariants.{Missing}
-use Rattle.rayon_machine_places.specs.Steps.{seeing}
+use Rattle.rayon_machine_runs.specs.Steps.{seeing}
 use Rattle.rayon_machine_orders.specs.Looks.{HasLooked}
 use Rattle.rayon_machine_orders.proofs.WrongMachines.{Machine, leading, making, right, run_by, step_by, times_go, two, a, b, c}
 use Rattle.rayon_machine_orders.proofs.CallTeeth.{running}

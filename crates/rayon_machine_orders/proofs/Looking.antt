@@ -10,8 +10,9 @@ use Rattle.rayon_machine_orders.proofs.Words.{RunFirst, Gathers, Wait, Act, Fifo
 use Rattle.rayon_machine_orders.proofs.Words.{after_slot, begin_cast, begin_feed, count_book, count_call, end_cast, ends_count, finish, is_member, next_of, own_pool, plan_book, plan_count, plan_job, plan_pool, set_call, settle_count, taken_back, taken_number, walk, withdraw, Counts, Outcome}
 use Rattle.rayon_machine_orders.proofs.Words.{Part, Shape, Stack, World, effect, is_open, target_call, target_pool, target_worker, after, after_miss, after_move, can_miss, jobs_after, mark_pieces, marked, put, step, MissesOne, is_look, flag_of, queue_of, pool_of, is_empty, TellsSo, DealtFrom}
 use Rattle.rayon_machine_places.specs.declared.act.Act.TheVariants.{Slot, SlotAll}
-use Rattle.rayon_machine_places.specs.World.{empty_seen}
-use Rattle.rayon_machine_places.specs.Steps.{has_one, is_newest_first}
+use Rattle.rayon_machine_runs.specs.World.{empty_seen}
+use Rattle.rayon_machine_runs.specs.Steps.{has_one}
+use Rattle.rayon_machine_places.specs.Shapes.{is_newest_first}
 use Rattle.rayon_machine_orders.specs.Looks.{MissLaw, TellLaw}
 use Rattle.rayon_machine_orders.specs.Numbers.{OpensSo, NumberLaw}
 use Rattle.rayon_machine_laws.proofs.Frame.{and_parts, if_cond, if_some_all, if_some_and, if_some_map, piece_in, piece_new, put_new, stack_mine}

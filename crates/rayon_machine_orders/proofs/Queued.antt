@@ -5,7 +5,7 @@ use Rattle.rayon_machine_orders.proofs.Words.{StealFrom, TakeCastIdle, TakeCastW
 use Rattle.rayon_machine_orders.proofs.Words.{Joins, Leaves, Counts, Part, Seat, Shape, World, but_last, counts_at, effect, fifo_back, head_of, is_open, last_of, or_none, pop_injector, popped, put_list, same_list, take_cast, target_call, target_pool, target_worker, Go, Event, IsRun, start}
 use Rattle.rayon_machine_orders.proofs.Words.{eqb-true, Feeding, FifoOut, LookInj, LookOwn, PushInj, PushOwn, Party, Place, Plain, Token, Seen, act_of, after_begin, is_member, next_of, own_pool, plan_job, plan_pool, plan_book, count_book, after_move, part_of, put_seat, step}
 use Rattle.rayon_machine_orders.specs.Queue.{QueueLaw}
-use Rattle.rayon_machine_places.specs.World.{fifo_first, fifo_out}
+use Rattle.rayon_machine_runs.specs.World.{fifo_first, fifo_out}
 use Rattle.rayon_machine_laws.proofs.Redeems.{always_stocks, redeems}
 use Rattle.rayon_machine_laws.proofs.Emptied.{always_lists}
 use Rattle.rayon_machine_laws.proofs.Tops.{FramesOk}

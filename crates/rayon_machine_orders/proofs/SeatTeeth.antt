@@ -5,7 +5,7 @@ use Rattle.rayon_machine_orders.proofs.Words.{ℕ, Bool, true, false, Some, None
 use Rattle.rayon_machine_orders.proofs.Words.{IsSleepy, InDeque, act_of, next_of, own_pool, own_index, Shape, World, Counts, Part, Outcome, at_job, effect, left_book}
 use Rattle.rayon_machine_places.specs.declared.act.Act.TheVariants.{Sleepy, Unlock}
 use Rattle.rayon_machine_places.specs.declared.act.Seen.TheVariants.{Missing}
-use Rattle.rayon_machine_places.specs.World.{is_held_by}
+use Rattle.rayon_machine_runs.specs.World.{is_held_by}
 use Rattle.rayon_machine_laws.specs.Seats.{inactive_at}
 use Rattle.rayon_machine_laws.specs.Letters.{letter_for}
 use Rattle.rayon_machine_laws.specs.Holders.{feeds_list, locks_at, others_hold}

@@ -4,7 +4,8 @@ use Rattle.rayon_machine_orders.proofs.Words.{Plain, Token, arith, refl, sym, �
 use Rattle.rayon_machine_orders.proofs.Words.{PushCast, PutSlot, Take, Idle, Seen, Ending, Latch, Terminate, OfCall, Shape, Counts, Part, Seat, Pool, effect, found, letter, popped, take_cast, pop_injector, fifo_back, left_book, count_book, is_member, Done, Refused, Yes, No, Count, Call, Letter}
 use Rattle.rayon_machine_orders.proofs.Words.{IsSet, Whereabouts, Running, Retaken, Over, Slot as SlotState, Filled, [], Injected, InDeque, InFifo, own_pool, own_index, filled, IsOpen, Closed, own_left, own_of, but_first, head_of, last_of, is_open, count_in, not, ◌&&◌, ◌==◌}
 use Rattle.rayon_machine_places.specs.declared.act.Act.TheVariants.{TakeCast, Sleepy, Asleep, Wakeup, Unlock, TryAdd, Wake, LockSet, LockWait, Raise, LowerAll, RaiseAll, Slot, SlotUndo, SlotAll, SlotUndoAll, StoreBody as PutBody, StorePiece as PutPiece, Grow, Store}
-use Rattle.rayon_machine_places.specs.World.{with_letter, fifo_first, lock_wait, is_free_lock, is_own, is_held_by, jec}
+use Rattle.rayon_machine_runs.specs.World.{with_letter, fifo_first, lock_wait, is_free_lock, is_held_by, jec}
+use Rattle.rayon_machine_places.specs.Targets.{is_own}
 use Rattle.rayon_machine_places.specs.Places.{look_act, push_act, begin_act}
 use Rattle.rayon_machine_places.specs.declared.act.Seen.TheVariants.{Missing}
 use Rattle.rayon_machine_laws.proofs.Letters.{sleepy_keeps, asleep_keeps, wake_keeps, set_keeps}

@@ -8,7 +8,8 @@ use Rattle.rayon_machine_orders.proofs.Words.{SetLockLatch, FirstSide, SecondSid
 use Rattle.rayon_machine_orders.proofs.Words.{StorePiece, Move, Stay, Seen, Done, Yes, Task, Wakes, Found, Opened, Letter, Unset, IsSleepy, Sleeping, IsSet, PoolShape, OpenCall, Feeding, Pieces, Gathering, Wait, Settling, own_pool, after_wait, latch_of, finish, walk, settle, after_set}
 use Rattle.rayon_machine_orders.proofs.Words.{after_found, act_of, after_failure, next_of, settle_count, plan_count, plan_job, plan_book, count_book, taken_number, undo, withdraw, begin_feed, after_slot, begin_cast, end_cast, ends_count, set_call, Shape, Counts, Part, target_call, letter, found}
 use Rattle.rayon_machine_orders.proofs.Words.{effect, Taken, BeginTask, LookQueue, plan_pool}
-use Rattle.rayon_machine_places.specs.World.{call_of, is_set, lock_wait, sleepy, fall_asleep, wake_up, set_latch}
+use Rattle.rayon_machine_places.specs.Targets.{call_of}
+use Rattle.rayon_machine_runs.specs.World.{is_set, lock_wait, sleepy, fall_asleep, wake_up, set_latch}
 use Rattle.rayon_machine_laws.proofs.ClaimActs.{is_call, sets_call}
 use Rattle.rayon_machine_laws.proofs.Frame.{if_some_all, if_some_map}
 use Rattle.rayon_machine_laws.proofs.Latches.{SameLatches, latches_same}

@@ -8,11 +8,12 @@ use Rattle.rayon_machine_places.specs.declared.place.Count.TheVariants.{OfPool, 
 use Rattle.rayon_machine_places.specs.declared.place.Place.{Place}
 use Rattle.rayon_machine_places.specs.declared.place.Place.TheVariants.{PickVictim, StealFrom, YieldPop, YieldPick, YieldSteal, LocalPop, Run}
 use Rattle.rayon_machine_places.specs.declared.place.Ending.{Ending}
-use Rattle.rayon_machine_places.specs.declared.event.Event.{Event}
-use Rattle.rayon_machine_places.specs.declared.event.Event.TheVariants.{Go, From, Refuse, Miss, End, Spawn, Fifo, Install, Join, Yield, YieldLocal, EndPool, Cast, Scope as OpenScope, IntoSpawn, IntoFifo, IntoCast, Broadcast}
+use Rattle.rayon_machine_runs.specs.declared.event.Event.{Event}
+use Rattle.rayon_machine_runs.specs.declared.event.Event.TheVariants.{Go, From, Refuse, Miss, End, Spawn, Fifo, Install, Join, Yield, YieldLocal, EndPool, Cast, Scope as OpenScope, IntoSpawn, IntoFifo, IntoCast, Broadcast}
 use Rattle.rayon_machine_places.specs.Places.{act_of, is_member}
-use Rattle.rayon_machine_places.specs.World.{Stack, World, counts_at, target_call, target_pool, target_worker}
-use Rattle.rayon_machine_places.specs.Steps.{after_choice, after_end, after_miss, after_join, after_send, after_yield, put, step}
+use Rattle.rayon_machine_runs.specs.World.{Stack, World, counts_at}
+use Rattle.rayon_machine_places.specs.Targets.{target_call, target_pool, target_worker}
+use Rattle.rayon_machine_runs.specs.Steps.{after_choice, after_end, after_miss, after_join, after_send, after_yield, put, step}
 use Rattle.rayon_machine_laws.proofs.Frame.{acted_keeps, fifo_cases, if_cond, if_some_map, into_cases, into_cast_cases, into_fifo_cases, put_same}
 use Rattle.rayon_machine_laws.proofs.Ties.{outcome, result, job_at}
 use Rattle.rayon_machine_laws.proofs.Calm.{counts_seen, part_at}

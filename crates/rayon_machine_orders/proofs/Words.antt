@@ -7,19 +7,22 @@ pub use Rattle.std.specs.Prelude.{◌≡◌, ℕ, false, true, Some, None, List,
 pub use Rattle.rayon_machine_places.specs.Places.{act_of, next_of, count_book, plan_job, is_member, plan_book, own_pool, same_party, plan_pool, is_free, withdraw, count_kind, taken_number, plan_count, finish, end_cast, walk, after_set, begin_feed, own_index, settle_count, begin_cast, settle}
 pub use Rattle.rayon_machine_places.specs.Places.{after_slot, undo, after_found, after_raise, set_call, ends_count, is_refusable, goes_on, after_news, after_push, next_steal, after_failure, next_yield, fresh, after_wait, next_victim, not_self, is_taken, after_begin, count_call, gather_all}
 pub use Rattle.rayon_machine_places.specs.Places.{taken_back, latch_of, holds_scope, call_all}
-pub use Rattle.rayon_machine_places.specs.Readers.{is_done, is_queued, is_running}
-pub use Rattle.rayon_machine_places.specs.Runs.{start, IsRun, first_place}
-pub use Rattle.rayon_machine_places.specs.Steps.{step, put, is_piece, after_move, put_stack, is_pool, holds, after_miss, after_send, after_join, after_choice, after_end, after_yield, put_pieces, after_spawn, jobs_after, new_piece, can_miss, after_enter, marked, after_cast, new_whole}
-pub use Rattle.rayon_machine_places.specs.Steps.{after_close, after_call, after_feed, after_fifo, after_into, after_into_fifo, after_refusal, mark_pieces, after_scope, after_broadcast, part_of, new_job, after_install, after_deal, after_into_cast, after_gather, new_call, after_end_pool}
-pub use Rattle.rayon_machine_places.specs.Steps.{new_gathering, after_enter_fifo, holds_in, with_stack, put_seat, after_resume, after, back}
-pub use Rattle.rayon_machine_places.specs.World.{World, Shape, Part, Stack, target_pool, effect, target_call, Counts, target_worker, at_job, is_open, counts_at, Outcome, but_last, count_in, last_of, or_none, taken_as, begun, count_below, target_job, popped, head_of, count_pool, found, Seat}
-pub use Rattle.rayon_machine_places.specs.World.{same_list, put_list, raised, left_book, told, pop_injector, take_cast, Pool, fifo_back, is_token, own_of, own_left, lowered, casts_with, but_first, letter, filled, left_by, first_fault, put_piece}
+pub use Rattle.rayon_machine_runs.specs.Readers.{is_done, is_queued, is_running}
+pub use Rattle.rayon_machine_runs.specs.Runs.{start, IsRun, first_place}
+pub use Rattle.rayon_machine_runs.specs.Steps.{step, put, is_piece, after_move, put_stack, is_pool, holds, after_miss, after_send, after_join, after_choice, after_end, after_yield, put_pieces, after_spawn, jobs_after, new_piece, can_miss, after_enter, marked, after_cast, new_whole}
+pub use Rattle.rayon_machine_runs.specs.Steps.{after_close, after_call, after_feed, after_fifo, after_into, after_into_fifo, after_refusal, mark_pieces, after_scope, after_broadcast, part_of, new_job, after_install, after_deal, after_into_cast, after_gather, new_call, after_end_pool}
+pub use Rattle.rayon_machine_runs.specs.Steps.{new_gathering, after_enter_fifo, holds_in, with_stack, put_seat, after_resume, after, back}
+pub use Rattle.rayon_machine_runs.specs.World.{World, Shape, Part, Stack, effect, at_job, is_open, counts_at, Outcome, but_last, count_in, last_of, begun, count_below, target_job, popped, head_of, found, Seat}
+pub use Rattle.rayon_machine_places.specs.Targets.{target_pool, target_call, target_worker, or_none, taken_as, count_pool}
+pub use Rattle.rayon_machine_places.specs.Sleepers.{Counts}
+pub use Rattle.rayon_machine_runs.specs.World.{same_list, put_list, raised, left_book, told, pop_injector, take_cast, Pool, fifo_back, own_of, own_left, lowered, casts_with, but_first, letter, filled, left_by, first_fault, put_piece}
+pub use Rattle.rayon_machine_places.specs.Targets.{is_token}
 pub use Rattle.rayon_machine_places.specs.declared.act.Act.{Act}
 pub use Rattle.rayon_machine_places.specs.declared.act.Act.TheVariants.{PushOwn, PushInj, PushCast, LookOwn, LookInj, Set, FifoOut, FifoIn, Take, Lower, News, Steal, Begin, SubInactive, FifoUndo, Idle, PopInj, PopOwn, StoreSlot as PutSlot, Lock}
 pub use Rattle.rayon_machine_places.specs.declared.act.Seen.{Seen}
 pub use Rattle.rayon_machine_places.specs.declared.act.Seen.TheVariants.{Done, Yes, Task, Refused, Wakes, Found, No, Begun, Start, Handed, Jec, Word, Opened}
-pub use Rattle.rayon_machine_places.specs.declared.event.Event.{Event}
-pub use Rattle.rayon_machine_places.specs.declared.event.Event.TheVariants.{Go, Spawn, End, Scope as OpenScope, Refuse, Fifo, IntoSpawn, Install, Join, Broadcast, Cast, EndPool, IntoFifo, IntoCast, Miss, From, YieldLocal, Yield}
+pub use Rattle.rayon_machine_runs.specs.declared.event.Event.{Event}
+pub use Rattle.rayon_machine_runs.specs.declared.event.Event.TheVariants.{Go, Spawn, End, Scope as OpenScope, Refuse, Fifo, IntoSpawn, Install, Join, Broadcast, Cast, EndPool, IntoFifo, IntoCast, Miss, From, YieldLocal, Yield}
 pub use Rattle.rayon_machine_places.specs.declared.place.Count.{Count}
 pub use Rattle.rayon_machine_places.specs.declared.place.Count.TheVariants.{OfPool, OfScope, OfCast}
 pub use Rattle.rayon_machine_places.specs.declared.place.Ending.{Ending}
@@ -61,15 +64,15 @@ pub use Rattle.rayon_machine_places.specs.declared.place.Wait.{Wait}
 pub use Rattle.rayon_machine_places.specs.declared.shape.Order.{Order}
 pub use Rattle.rayon_machine_places.specs.declared.shape.Order.TheVariants.{NewestFirst, OldestFirst}
 pub use Rattle.rayon_machine_places.specs.declared.shape.PoolShape.{PoolShape}
-pub use Rattle.rayon_machine_places.specs.declared.state.Call.{Call}
-pub use Rattle.rayon_machine_places.specs.declared.state.Job.{Job}
-pub use Rattle.rayon_machine_places.specs.declared.state.Letter.{Letter}
-pub use Rattle.rayon_machine_places.specs.declared.state.Letter.TheVariants.{Set as IsSet, Unset, Sleepy as IsSleepy, Sleeping}
-pub use Rattle.rayon_machine_places.specs.declared.state.Scope.{Scope}
-pub use Rattle.rayon_machine_places.specs.declared.state.Slot.{Slot}
-pub use Rattle.rayon_machine_places.specs.declared.state.Slot.TheVariants.{Closed, Open as IsOpen, Filled}
-pub use Rattle.rayon_machine_places.specs.declared.state.Whereabouts.{Whereabouts}
-pub use Rattle.rayon_machine_places.specs.declared.state.Whereabouts.TheVariants.{Over, HandedBack, Spent, InDeque, Running, Injected, Nowhere, Made, InFifo, Retaken, InCast}
+pub use Rattle.rayon_machine_runs.specs.declared.state.Call.{Call}
+pub use Rattle.rayon_machine_runs.specs.declared.state.Job.{Job}
+pub use Rattle.rayon_machine_runs.specs.declared.state.Letter.{Letter}
+pub use Rattle.rayon_machine_runs.specs.declared.state.Letter.TheVariants.{Set as IsSet, Unset, Sleepy as IsSleepy, Sleeping}
+pub use Rattle.rayon_machine_runs.specs.declared.state.Scope.{Scope}
+pub use Rattle.rayon_machine_runs.specs.declared.state.Slot.{Slot}
+pub use Rattle.rayon_machine_runs.specs.declared.state.Slot.TheVariants.{Closed, Open as IsOpen, Filled}
+pub use Rattle.rayon_machine_runs.specs.declared.state.Whereabouts.{Whereabouts}
+pub use Rattle.rayon_machine_runs.specs.declared.state.Whereabouts.TheVariants.{Over, HandedBack, Spent, InDeque, Running, Injected, Nowhere, Made, InFifo, Retaken, InCast}
 pub use Rattle.rayon_machine_laws.specs.Attended.{is_filled, owes_cast}
 pub use Rattle.rayon_machine_laws.specs.Bodies.{all_bodies, body, bodies_in}
 pub use Rattle.rayon_machine_laws.specs.Committed.{is_committed}

@@ -17,7 +17,8 @@ use Rattle.rayon_machine_orders.proofs.Words.{Lower, Seen, Done, Refused, Yes, N
 use Rattle.rayon_machine_orders.proofs.Words.{or_none, count_below, Counts, counts_at, head_of, last_of, but_first, popped, Part, target_pool, target_worker, target_call, target_job, Outcome, at_job, lowered, effect, count_in, put, put_stack, put_seat, part_of, after_move, jobs_after, step}
 use Rattle.rayon_machine_orders.proofs.Words.{start, one, times, shares, keeps_own, has_share, follows, is_committed, is_filled, Happening, Adds, Begins, happened, and_next, TokenList}
 use Rattle.rayon_machine_places.specs.declared.act.Act.TheVariants.{Announce, LockWait}
-use Rattle.rayon_machine_places.specs.World.{is_even, jec}
+use Rattle.rayon_machine_places.specs.Sleepers.{is_even}
+use Rattle.rayon_machine_runs.specs.World.{jec}
 use Rattle.rayon_machine_laws.specs.Once.{in_injector, is_with, held}
 use Rattle.rayon_machine_laws.specs.Committed.{is_looking}
 use Rattle.rayon_machine_laws.specs.Attended.{has_pushed, owes_wake, settles}

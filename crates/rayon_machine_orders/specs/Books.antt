@@ -14,11 +14,11 @@ use Rattle.rayon_machine_places.specs.declared.place.Pieces.{Pieces}
 use Rattle.rayon_machine_places.specs.declared.place.Plan.{Plan}
 use Rattle.rayon_machine_places.specs.declared.place.OpenCall.{OpenCall}
 use Rattle.rayon_machine_places.specs.declared.place.Place.TheVariants.{RaiseCount, CloseSlot, StoreSlot, TakeResult, RaiseForAll, CloseForAll}
-use Rattle.rayon_machine_places.specs.declared.state.Slot.{Slot}
-use Rattle.rayon_machine_places.specs.declared.state.Slot.TheVariants.{Closed, Open as IsOpen, Filled}
+use Rattle.rayon_machine_runs.specs.declared.state.Slot.{Slot}
+use Rattle.rayon_machine_runs.specs.declared.state.Slot.TheVariants.{Closed, Open as IsOpen, Filled}
 use Rattle.rayon_machine_places.specs.Places.{plan_job, plan_count}
-use Rattle.rayon_machine_places.specs.Steps.{is_piece}
-use Rattle.rayon_machine_places.specs.World.{World}
+use Rattle.rayon_machine_runs.specs.Steps.{is_piece}
+use Rattle.rayon_machine_runs.specs.World.{World}
 
 -- the number that a job has of its scope's book
 abbrev pub slot_number : Slot → Option ℕ

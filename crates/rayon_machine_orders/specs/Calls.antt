@@ -21,15 +21,16 @@ use Rattle.rayon_machine_places.specs.declared.place.Then.TheVariants.{Answers, 
 use Rattle.rayon_machine_places.specs.declared.place.Place.{Place}
 use Rattle.rayon_machine_places.specs.declared.act.Act.{Act}
 use Rattle.rayon_machine_places.specs.declared.act.Act.TheVariants.{Raise, Take, Lower}
-use Rattle.rayon_machine_places.specs.declared.event.Event.{Event}
-use Rattle.rayon_machine_places.specs.declared.event.Event.TheVariants.{Go, Refuse, Spawn, Fifo, Install, Join, Scope as OpenScope, IntoSpawn, IntoFifo, Broadcast}
-use Rattle.rayon_machine_places.specs.declared.state.Whereabouts.TheVariants.{HandedBack, Spent}
-use Rattle.rayon_machine_places.specs.declared.state.Scope.{Scope}
+use Rattle.rayon_machine_runs.specs.declared.event.Event.{Event}
+use Rattle.rayon_machine_runs.specs.declared.event.Event.TheVariants.{Go, Refuse, Spawn, Fifo, Install, Join, Scope as OpenScope, IntoSpawn, IntoFifo, Broadcast}
+use Rattle.rayon_machine_runs.specs.declared.state.Whereabouts.TheVariants.{HandedBack, Spent}
+use Rattle.rayon_machine_runs.specs.declared.state.Scope.{Scope}
 use Rattle.rayon_machine_places.specs.Places.{same_party, is_member, act_of}
-use Rattle.rayon_machine_places.specs.World.{Shape, Stack, World, is_token}
-use Rattle.rayon_machine_places.specs.Steps.{step}
-use Rattle.rayon_machine_places.specs.Runs.{IsRun, start}
-use Rattle.rayon_machine_places.specs.Readers.{is_queued, is_running, is_done}
+use Rattle.rayon_machine_runs.specs.World.{Shape, Stack, World}
+use Rattle.rayon_machine_places.specs.Targets.{is_token}
+use Rattle.rayon_machine_runs.specs.Steps.{step}
+use Rattle.rayon_machine_runs.specs.Runs.{IsRun, start}
+use Rattle.rayon_machine_runs.specs.Readers.{is_queued, is_running, is_done}
 use Rattle.rayon_machine_laws.specs.Counted.{ScopeEnded}
 use Rattle.rayon_machine_laws.specs.End.{HasEnded, Verdict, AllFine, FirstFault, LastFault, answered, follows, IsUntouched, ScopeTakes, CastTakes}
 use Rattle.rayon_machine_orders.specs.Books.{slot_number}

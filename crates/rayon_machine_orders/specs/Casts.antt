@@ -7,12 +7,12 @@ use Rattle.std.specs.Prelude.{ℕ, Bool, true, false, ◌&&◌, ◌+◌, ◌-◌
 use Rattle.rayon_machine_places.specs.declared.place.Party.{Party}
 use Rattle.rayon_machine_places.specs.declared.act.Act.{Act}
 use Rattle.rayon_machine_places.specs.declared.act.Act.TheVariants.{RaiseAll}
-use Rattle.rayon_machine_places.specs.declared.event.Event.{Event}
-use Rattle.rayon_machine_places.specs.declared.event.Event.TheVariants.{Go, Refuse, Cast, IntoCast}
+use Rattle.rayon_machine_runs.specs.declared.event.Event.{Event}
+use Rattle.rayon_machine_runs.specs.declared.event.Event.TheVariants.{Go, Refuse, Cast, IntoCast}
 use Rattle.rayon_machine_places.specs.Places.{same_party, act_of}
-use Rattle.rayon_machine_places.specs.World.{Shape, Stack, World}
-use Rattle.rayon_machine_places.specs.Steps.{step}
-use Rattle.rayon_machine_places.specs.Runs.{IsRun, start}
+use Rattle.rayon_machine_runs.specs.World.{Shape, Stack, World}
+use Rattle.rayon_machine_runs.specs.Steps.{step}
+use Rattle.rayon_machine_runs.specs.Runs.{IsRun, start}
 use Rattle.rayon_machine_orders.specs.Calls.{IsRunUntil, is_at_call, is_any, count_of, scope_pool, IsHandedOn, IsGivenBack, StandsOn}
 
 -- the party that begins a broadcast by this event, at a pool or into a scope

@@ -15,12 +15,12 @@ use Rattle.rayon_machine_places.specs.declared.place.Place.TheVariants.{TakeResu
 use Rattle.rayon_machine_places.specs.declared.act.Act.{Act}
 use Rattle.rayon_machine_places.specs.declared.act.Act.TheVariants.{Take, StoreBody as PutBody, StoreSlot as PutSlot, StorePiece as PutPiece}
 use Rattle.rayon_machine_places.specs.declared.act.Seen.TheVariants.{Found}
-use Rattle.rayon_machine_places.specs.declared.event.Event.{Event}
-use Rattle.rayon_machine_places.specs.declared.event.Event.TheVariants.{Go}
+use Rattle.rayon_machine_runs.specs.declared.event.Event.{Event}
+use Rattle.rayon_machine_runs.specs.declared.event.Event.TheVariants.{Go}
 use Rattle.rayon_machine_places.specs.Places.{act_of}
-use Rattle.rayon_machine_places.specs.World.{Shape, World, counts_at, effect}
-use Rattle.rayon_machine_places.specs.Steps.{part_of, step}
-use Rattle.rayon_machine_places.specs.Runs.{IsRun, start}
+use Rattle.rayon_machine_runs.specs.World.{Shape, World, counts_at, effect}
+use Rattle.rayon_machine_runs.specs.Steps.{part_of, step}
+use Rattle.rayon_machine_runs.specs.Runs.{IsRun, start}
 use Rattle.rayon_machine_laws.specs.End.{CastTakes, HasEnded, ScopeTakes}
 
 -- a scope that is to take: its book keeps no fault exactly where its body and each job of it ended without one, and the

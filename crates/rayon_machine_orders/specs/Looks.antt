@@ -8,12 +8,12 @@ use Rattle.rayon_machine_places.specs.declared.place.Place.{Place}
 use Rattle.rayon_machine_places.specs.declared.place.Place.TheVariants.{LookQueue, PushJob, LookForToken, PushToken}
 use Rattle.rayon_machine_places.specs.declared.act.Act.{Act}
 use Rattle.rayon_machine_places.specs.declared.act.Act.TheVariants.{Steal, PushInj, PushOwn, News}
-use Rattle.rayon_machine_places.specs.declared.event.Event.{Event}
-use Rattle.rayon_machine_places.specs.declared.event.Event.TheVariants.{Go, Miss}
+use Rattle.rayon_machine_runs.specs.declared.event.Event.{Event}
+use Rattle.rayon_machine_runs.specs.declared.event.Event.TheVariants.{Go, Miss}
 use Rattle.rayon_machine_places.specs.Places.{own_pool, own_index, act_of}
-use Rattle.rayon_machine_places.specs.World.{Shape, World}
-use Rattle.rayon_machine_places.specs.Steps.{step}
-use Rattle.rayon_machine_places.specs.Runs.{IsRun, start}
+use Rattle.rayon_machine_runs.specs.World.{Shape, World}
+use Rattle.rayon_machine_runs.specs.Steps.{step}
+use Rattle.rayon_machine_runs.specs.Runs.{IsRun, start}
 
 -- a party is to steal, its pool takes the newest first, and exactly one task stands in the deque of the victim
 pub record MissesOne (w : World) (q : Party) : Type 0 where

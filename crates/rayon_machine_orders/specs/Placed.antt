@@ -8,12 +8,12 @@ use Rattle.rayon_machine_places.specs.declared.place.Count.{Count}
 use Rattle.rayon_machine_places.specs.declared.place.Count.TheVariants.{OfPool, OfScope, OfCast}
 use Rattle.rayon_machine_places.specs.declared.act.Act.{Act}
 use Rattle.rayon_machine_places.specs.declared.act.Act.TheVariants.{PushInj, PushOwn, FifoIn, PushCast}
-use Rattle.rayon_machine_places.specs.declared.event.Event.{Event}
-use Rattle.rayon_machine_places.specs.declared.event.Event.TheVariants.{Go, Spawn, Fifo, Cast, Install, Join, IntoSpawn, IntoFifo, IntoCast, Broadcast}
-use Rattle.rayon_machine_places.specs.declared.state.Scope.{Scope}
+use Rattle.rayon_machine_runs.specs.declared.event.Event.{Event}
+use Rattle.rayon_machine_runs.specs.declared.event.Event.TheVariants.{Go, Spawn, Fifo, Cast, Install, Join, IntoSpawn, IntoFifo, IntoCast, Broadcast}
+use Rattle.rayon_machine_runs.specs.declared.state.Scope.{Scope}
 use Rattle.rayon_machine_places.specs.Places.{same_party, is_member, act_of}
-use Rattle.rayon_machine_places.specs.World.{Shape, Stack, World}
-use Rattle.rayon_machine_places.specs.Steps.{step}
+use Rattle.rayon_machine_runs.specs.World.{Shape, Stack, World}
+use Rattle.rayon_machine_runs.specs.Steps.{step}
 use Rattle.rayon_machine_orders.specs.Calls.{BeginsCall, IsRunUntil, is_at_call, is_refusal, is_any, scope_pool}
 use Rattle.rayon_machine_orders.specs.Casts.{BeginsCast, is_cast_refusal}
 use Rattle.rayon_machine_orders.specs.Makes.{scope_list}

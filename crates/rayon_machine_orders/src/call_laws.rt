@@ -1,6 +1,6 @@
 //! The laws of the terminate count and of how calls end, each the contract of a call without arguments: it holds in
 //! every world of every run.
-ghost use Rattle.rayon_machine_places.specs.Runs.{Always};
+ghost use Rattle.rayon_machine_runs.specs.Runs.{Always};
 ghost use Rattle.rayon_machine_laws.specs.Counted.{IsCounted};
 ghost use Rattle.rayon_machine_laws.specs.End.{IsEnd, IsRefused, IsReturned};
 ghost use Rattle.rayon_machine_laws.specs.Shares.{NoEarlyEnd};

@@ -4,9 +4,9 @@ use Rattle.std.specs.Prelude.{Some, IsSomeAnd, if◌then◌else◌, ◌==◌, �
 use Rattle.std.proofs.lemmas.Bool.{eqb-true}
 use Rattle.std.proofs.lemmas.Bool.Decides.{nat_tests}
 use Rattle.rayon_machine_places.specs.declared.place.Pieces.{Pieces}
-use Rattle.rayon_machine_places.specs.declared.state.Job.{Job}
-use Rattle.rayon_machine_places.specs.Steps.{blank_job, put_pieces}
-use Rattle.rayon_machine_places.specs.World.{casts_with}
+use Rattle.rayon_machine_runs.specs.declared.state.Job.{Job}
+use Rattle.rayon_machine_runs.specs.Steps.{blank_job, put_pieces}
+use Rattle.rayon_machine_runs.specs.World.{casts_with}
 use Rattle.rayon_machine_parts.specs.declared.parts.CastList.{CastList}
 use Rattle.rayon_machine_parts.specs.State.{CastsFrom, cast_at, job_at}
 use Rattle.std.specs.VecDeque.{deque_capacity, deque_len}

@@ -11,7 +11,9 @@ use Rattle.rayon_machine_parts.specs.declared.parts.Parts.{Parts}
 use Rattle.rayon_machine_parts.specs.declared.spot.Spot.{Spot}
 use Rattle.rayon_machine_parts.specs.declared.deed.Deed.{Deed}
 use Rattle.rayon_machine_places.specs.Places.{own_pool}
-use Rattle.rayon_machine_places.specs.World.{Shape, Pool, Seat, Counts, Outcome, Part, effect, target_call, target_job, target_pool, target_worker, aimed_job}
+use Rattle.rayon_machine_runs.specs.World.{Shape, Pool, Seat, Outcome, Part, effect, target_job}
+use Rattle.rayon_machine_places.specs.Sleepers.{Counts}
+use Rattle.rayon_machine_places.specs.Targets.{target_call, target_pool, target_worker, aimed_job}
 use Rattle.rayon_machine_numbers.specs.Numbers.{Acts, Can, DoesNot, FifoLists, act_list, full, is_census, end_task}
 use Rattle.rayon_machine_parts.specs.State.{IsDeed, IsNoDeed, counts_in, part_at_spot, pool_at, seat_at, spot_of, touched_at}
 

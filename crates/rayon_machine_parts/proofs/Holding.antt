@@ -5,7 +5,7 @@ use Rattle.std.specs.List.{list_any}
 use Rattle.std.proofs.lemmas.List.{reverse-append}
 use Rattle.rayon_machine_places.specs.declared.place.Place.{Place}
 use Rattle.rayon_machine_places.specs.Places.{holds_scope}
-use Rattle.rayon_machine_places.specs.Steps.{holds_in}
+use Rattle.rayon_machine_runs.specs.Steps.{holds_in}
 
 or-swap : (a b : Bool) → (a || b) ≡ (b || a)
 or-swap true true = refl

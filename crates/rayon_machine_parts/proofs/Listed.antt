@@ -3,7 +3,7 @@ use Rattle.std.proofs.Common.{◌≡◌, ℕ, zero, suc, ◌<◌, Bool, true, fa
 use Rattle.std.specs.Prelude.{Option, Some, None, IsSomeAnd, OnOk, Result, Ok, Err, if◌then◌else◌, ◌==◌, get_or, slice_get, slice_set}
 use Rattle.std.proofs.lemmas.Bool.{eq-eqb, eqb-true}
 use Rattle.rayon_machine_places.specs.declared.place.Party.{Party}
-use Rattle.rayon_machine_places.specs.World.{put_list}
+use Rattle.rayon_machine_runs.specs.World.{put_list}
 use Rattle.rayon_machine_parts.specs.declared.parts.FifoList.{FifoList}
 use Rattle.rayon_machine_parts.specs.declared.parts.Seat.{Seat as StoredSeat}
 use Rattle.rayon_machine_parts.specs.State.{blank_seat, feeder_of, fifo_of, holder_in, jobs_in, seat_in, seat_of}

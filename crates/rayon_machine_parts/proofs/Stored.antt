@@ -10,9 +10,9 @@ use Rattle.rayon_machine_places.specs.declared.place.Party.{Party}
 use Rattle.rayon_machine_places.specs.declared.place.Party.TheVariants.{Worker, Caller}
 use Rattle.rayon_machine_parts.specs.declared.parties.Crew.{Crew}
 use Rattle.rayon_machine_parts.specs.declared.parties.Parties.{Parties}
-use Rattle.rayon_machine_places.specs.World.{Shape, Stack}
+use Rattle.rayon_machine_runs.specs.World.{Shape, Stack}
 use Rattle.rayon_machine_places.specs.Places.{goes_on}
-use Rattle.rayon_machine_places.specs.Steps.{after_resume, back, put_stack}
+use Rattle.rayon_machine_runs.specs.Steps.{after_resume, back, put_stack}
 use Rattle.rayon_machine_parts.specs.State.{caller_in, first_stack, stack_at, stack_in, worker_in, RoomAt}
 use Rattle.rayon_machine_parts.proofs.AfterWrites.{get-set, read-set}
 

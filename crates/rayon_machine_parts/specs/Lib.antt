@@ -1,9 +1,12 @@
 pub mod State
 pub use Rattle.rayon_machine_places.specs.Places
-pub use Rattle.rayon_machine_places.specs.World
-pub use Rattle.rayon_machine_places.specs.Steps
-pub use Rattle.rayon_machine_places.specs.Runs
-pub use Rattle.rayon_machine_places.specs.Readers
+pub use Rattle.rayon_machine_places.specs.Targets
+pub use Rattle.rayon_machine_places.specs.Sleepers
+pub use Rattle.rayon_machine_places.specs.Shapes
 pub use Rattle.rayon_machine_places.specs.Groups
-pub use Rattle.rayon_machine_places.specs.Starts
+pub use Rattle.rayon_machine_runs.specs.World
+pub use Rattle.rayon_machine_runs.specs.Steps
+pub use Rattle.rayon_machine_runs.specs.Runs
+pub use Rattle.rayon_machine_runs.specs.Readers
+pub use Rattle.rayon_machine_runs.specs.Starts
 pub use Rattle.rayon_machine_numbers.specs.Numbers

@@ -17,9 +17,9 @@ use Rattle.rayon_machine_places.specs.declared.place.Mark.TheVariants.{Numbered}
 use Rattle.rayon_machine_places.specs.declared.place.Move.TheVariants.{StartRun, HandBack, HandIn, Discard, Mark, HandAllBack}
 use Rattle.rayon_machine_places.specs.declared.shape.Order.TheVariants.{NewestFirst}
 use Rattle.rayon_machine_places.specs.declared.shape.PoolShape.{PoolShape}
-use Rattle.rayon_machine_places.specs.declared.state.Letter.TheVariants.{Unset}
-use Rattle.rayon_machine_places.specs.declared.state.Job.{Job}
-use Rattle.rayon_machine_places.specs.declared.state.Call.{Call}
+use Rattle.rayon_machine_runs.specs.declared.state.Letter.TheVariants.{Unset}
+use Rattle.rayon_machine_runs.specs.declared.state.Job.{Job}
+use Rattle.rayon_machine_runs.specs.declared.state.Call.{Call}
 use Rattle.rayon_machine_parts.specs.declared.shapes.Shapes.{Shapes}
 use Rattle.rayon_machine_parts.specs.declared.parties.Stack.{Stack as StoredStack}
 use Rattle.rayon_machine_parts.specs.declared.parties.Crew.{Crew}
@@ -31,11 +31,13 @@ use Rattle.rayon_machine_parts.specs.declared.parts.Seat.{Seat as StoredSeat}
 use Rattle.rayon_machine_parts.specs.declared.parts.Bench.{Bench}
 use Rattle.rayon_machine_parts.specs.declared.parts.Parts.{Parts}
 use Rattle.rayon_machine_places.specs.Places.{own_pool}
-use Rattle.rayon_machine_places.specs.Runs.{first_place}
-use Rattle.rayon_machine_places.specs.Steps.{blank_job, new_call}
+use Rattle.rayon_machine_runs.specs.Runs.{first_place}
+use Rattle.rayon_machine_runs.specs.Steps.{blank_job, new_call}
 use Rattle.std.specs.Option.{option_map_or}
 use Rattle.std.specs.VecDeque.{deque_capacity, deque_len}
-use Rattle.rayon_machine_places.specs.World.{Shape, Seat, Pool, Stack, Counts, Part, count_below, target_pool, target_worker, target_call, target_job, effect}
+use Rattle.rayon_machine_runs.specs.World.{Shape, Seat, Pool, Stack, Part, count_below, target_job, effect}
+use Rattle.rayon_machine_places.specs.Sleepers.{Counts}
+use Rattle.rayon_machine_places.specs.Targets.{target_pool, target_worker, target_call}
 
 -- a seat that no step has touched
 abbrev pub blank_seat : Seat

@@ -1,11 +1,11 @@
 //! How a deed and a move change the parts of the world.
 ghost use Rattle.std.specs.Prelude.{◌≡◌, ℕ, OnOk, ◌<◌, vec_len, true, ◌≤◌};
-ghost use Rattle.rayon_machine_places.specs.Steps.{put, put_seat, handed_back, jobs_after};
+ghost use Rattle.rayon_machine_runs.specs.Steps.{put, put_seat, handed_back, jobs_after};
 ghost use Rattle.rayon_machine_numbers.specs.Numbers.{pool_queued, seat_queued, with_flags, with_numbers};
 ghost use Rattle.rayon_machine_parts.specs.State.{HasPool, HasSeat, call_at, job_at, pool_at, seat_at, MarkFits, MoveWithin, PiecesFit, PlanFits, PlanWithin, RunsFit};
 ghost use Rattle.rayon_machine_places.specs.Places.{own_index};
-ghost use Rattle.rayon_machine_places.specs.World.{at_job};
-ghost use Rattle.rayon_machine_places.specs.declared.state.Whereabouts.TheVariants.{HandedBack};
+ghost use Rattle.rayon_machine_runs.specs.World.{at_job};
+ghost use Rattle.rayon_machine_runs.specs.declared.state.Whereabouts.TheVariants.{HandedBack};
 
 use crate::deed::Deed;
 use crate::growth::{grow_calls, grow_jobs, numbers_fit, pool_room, seat_room};
@@ -14,7 +14,7 @@ use crate::spot::Spot;
 use crate::writes::{write_call, write_job, write_marks, write_pool, write_seat};
 use rayon_machine_places::act::Act;
 use rayon_machine_places::place::{Mark, Move, Party, Pieces, Plan};
-use rayon_machine_places::state::{Job, Whereabouts};
+use rayon_machine_runs::state::{Job, Whereabouts};
 use std::alloc::{AllocError, Global};
 
 /// The larger of two numbers.

@@ -2,7 +2,7 @@
 ghost use Rattle.std.specs.Prelude.{◌≡◌, true, IfErr, IfOk};
 ghost use Rattle.rayon_machine_numbers.specs.Numbers.{census_counts, is_census};
 ghost use Rattle.rayon_machine_parts.specs.State.{seat_at, shape_of, IsDeed, IsNoDeed, counts_in};
-ghost use Rattle.rayon_machine_places.specs.World.{count_below};
+ghost use Rattle.rayon_machine_runs.specs.World.{count_below};
 
 use crate::parts::Parts;
 use crate::shapes::Shapes;
@@ -10,9 +10,9 @@ use crate::spot::{Spot, list_of};
 use rayon_machine_numbers::numbers::{Census, Touched};
 use rayon_machine_numbers::outcome::looks_at_counts;
 use rayon_machine_places::act::{Act, Seen};
-use rayon_machine_places::error::StepError;
 use rayon_machine_places::place::Party;
 use rayon_machine_places::shape::Order;
+use rayon_machine_runs::error::StepError;
 
 /// What an act touches, what it sees, and the numbers after it. `order` is the order in which the
 /// party's pool takes tasks.

@@ -3,7 +3,7 @@ ghost use Rattle.std.specs.Prelude.{◌≡◌, ℕ, None, IsSomeAnd, OnOk, ◌�
 ghost use Rattle.std.specs.VecDeque.{deque_capacity, deque_len};
 ghost use Rattle.rayon_machine_numbers.specs.Numbers.{act_list};
 ghost use Rattle.rayon_machine_parts.specs.State.{CastsFit, CastsFrom, DequeFits, NumbersFit, FifoFits, HasPool, HasSeat, InjectorFits, ListFits, SeatFits, call_at, holder_in, jobs_in, cast_at, job_at, pool_at, pool_of, seat_of, seat_at, seat_in, shape_of, stack_of, blank_pool, blank_seat, first_stack, caller_in, stack_at, worker_in};
-ghost use Rattle.rayon_machine_places.specs.World.{Shape};
+ghost use Rattle.rayon_machine_runs.specs.World.{Shape};
 ghost use Rattle.rayon_machine_places.specs.declared.act.Act.TheVariants.{PushCast};
 
 use crate::parties::{Crew, Stack};
@@ -13,7 +13,7 @@ use crate::spot::list_of;
 use rayon_machine_numbers::numbers::{PoolNumbers, WorkerFlags};
 use rayon_machine_places::act::Act;
 use rayon_machine_places::place::{Party, Pieces};
-use rayon_machine_places::state::{Call, Job, Letter};
+use rayon_machine_runs::state::{Call, Job, Letter};
 use std::alloc::{AllocError, Global};
 use std::collections::VecDeque;
 

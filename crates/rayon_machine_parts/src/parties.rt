@@ -2,10 +2,10 @@
 ghost use Rattle.std.specs.Prelude.{◌≡◌, ℕ, OnOk, if◌then◌else◌, ◌==◌, ◌<◌, vec_len, reverse, vec_capacity, ◌∷◌};
 ghost use Rattle.std.specs.List.{list_any};
 ghost use Rattle.rayon_machine_places.specs.declared.place.Party.{Party as AnyParty};
-ghost use Rattle.rayon_machine_places.specs.Steps.{after_move, put_stack, after_resume, back as back_to, after_close, holds};
+ghost use Rattle.rayon_machine_runs.specs.Steps.{after_move, put_stack, after_resume, back as back_to, after_close, holds};
 ghost use Rattle.rayon_machine_places.specs.Places.{holds_scope};
 ghost use Rattle.rayon_machine_parts.specs.State.{stack_in, shape_of, HasRoom, RoomAt, stack_of, stack_or};
-ghost use Rattle.rayon_machine_places.specs.World.{Shape, Stack as AnyStack};
+ghost use Rattle.rayon_machine_runs.specs.World.{Shape, Stack as AnyStack};
 
 use crate::growth::{grow_callers, grow_crews, grow_stacks};
 use crate::shapes::Shapes;

@@ -1,13 +1,13 @@
 //! The parts of a running world that acts touch, and what a reader counts in them.
 ghost use Rattle.std.specs.Prelude.{◌≡◌, length};
 ghost use Rattle.rayon_machine_parts.specs.State.{job_at, pool_at, seat_at};
-ghost use Rattle.rayon_machine_places.specs.Steps.{has_one as one_left};
-ghost use Rattle.rayon_machine_places.specs.Readers.{is_done, is_job_that, is_queued, is_running};
-ghost use Rattle.rayon_machine_places.specs.World.{count_below};
+ghost use Rattle.rayon_machine_runs.specs.Steps.{has_one as one_left};
+ghost use Rattle.rayon_machine_runs.specs.Readers.{is_done, is_job_that, is_queued, is_running};
+ghost use Rattle.rayon_machine_runs.specs.World.{count_below};
 
 use rayon_machine_numbers::numbers::{PoolNumbers, WorkerFlags};
 use rayon_machine_places::place::Party;
-use rayon_machine_places::state::{Call, Job};
+use rayon_machine_runs::state::{Call, Job};
 use std::collections::VecDeque;
 
 /// The broadcast list of a worker, the oldest task first.

@@ -1,8 +1,8 @@
 //! The shapes of the pools of a running world, and where each party stands at the start.
 ghost use Rattle.std.specs.Prelude.{◌≡◌};
 ghost use Rattle.rayon_machine_parts.specs.State.{shape_of};
-ghost use Rattle.rayon_machine_places.specs.Steps.{is_pool};
-ghost use Rattle.rayon_machine_places.specs.Runs.{first_place as first_of};
+ghost use Rattle.rayon_machine_runs.specs.Steps.{is_pool};
+ghost use Rattle.rayon_machine_runs.specs.Runs.{first_place as first_of};
 
 use rayon_machine_places::place::{Party, Place, Target};
 use rayon_machine_places::shape::{Order, PoolShape};

@@ -2,7 +2,8 @@
 ghost use Rattle.std.specs.Prelude.{◌≡◌, if◌then◌else◌};
 ghost use Rattle.rayon_machine_numbers.specs.Numbers.{act_list, flags_of, numbers_of, end_task};
 ghost use Rattle.rayon_machine_parts.specs.State.{call_at, feeder_of, fifo_of, job_at, pool_at, seat_at, touched_at};
-ghost use Rattle.rayon_machine_places.specs.World.{head_of, last_of, target_pool, target_worker};
+ghost use Rattle.rayon_machine_runs.specs.World.{head_of, last_of};
+ghost use Rattle.rayon_machine_places.specs.Targets.{target_pool, target_worker};
 
 use crate::parts::{FifoList, Parts, Seat};
 use rayon_machine_numbers::numbers::{PoolNumbers, Touched, WorkerFlags};
@@ -10,7 +11,7 @@ use rayon_machine_numbers::queues::{newest, oldest};
 use rayon_machine_places::act::Act;
 use rayon_machine_places::place::Party;
 use rayon_machine_places::shape::Order;
-use rayon_machine_places::state::{Call, Job, Letter};
+use rayon_machine_runs::state::{Call, Job, Letter};
 
 /// What an act touches.
 /// It is the running world's own part, and not for users.

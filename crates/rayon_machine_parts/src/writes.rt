@@ -1,8 +1,8 @@
 //! Writes to the parts of a world: a pool, a seat, a call or a job is changed, and all else stays as it was.
 ghost use Rattle.std.specs.Prelude.{◌≡◌, ℕ, ◌<◌, vec_len, false, ◌+◌, ◌≤◌, ◌++◌, ◌∷◌, []};
 ghost use Rattle.std.specs.VecDeque.{deque_capacity, deque_len};
-ghost use Rattle.rayon_machine_places.specs.Steps.{put, put_seat, put_pieces, mark_pieces, new_piece};
-ghost use Rattle.rayon_machine_places.specs.World.{casts_with, left_by};
+ghost use Rattle.rayon_machine_runs.specs.Steps.{put, put_seat, put_pieces, mark_pieces, new_piece};
+ghost use Rattle.rayon_machine_runs.specs.World.{casts_with, left_by};
 ghost use Rattle.rayon_machine_places.specs.declared.act.Act.TheVariants.{PushCast};
 ghost use Rattle.rayon_machine_numbers.specs.Numbers.{act_list, is_listing, seat_pushed, pool_queued, list_held, list_queued, seat_listed, seat_queued, with_flags, with_numbers};
 ghost use Rattle.rayon_machine_parts.specs.State.{CastsFit, DequeFits, FifoFits, HasPool, HasSeat, InjectorFits, ListFits, MarkFits, SeatFits, call_at, cast_at, job_at, pool_at, pool_of, seat_of, seat_at, seat_in};
@@ -14,7 +14,7 @@ use rayon_machine_numbers::queues::{drop_newest, drop_oldest};
 use rayon_machine_places::act::Act;
 use rayon_machine_places::place::{Mark, Party, Pieces};
 use rayon_machine_places::shape::Order;
-use rayon_machine_places::state::{Call, Job};
+use rayon_machine_runs::state::{Call, Job};
 
 impl Pool {
     /// The pool with these numbers, after an act on its queues by the worker of this index.

@@ -12,7 +12,7 @@ use Rattle.std.proofs.lemmas.Bool.{leb-true}
 use Rattle.rayon_machine_places.specs.declared.place.Place.TheVariants.{TakeCastWorking, JoinTakeCast}
 use Rattle.rayon_machine_places.specs.declared.act.Seen.TheVariants.{Opened}
 use Rattle.rayon_machine_places.specs.Places.{call_all, gather_all}
-use Rattle.rayon_machine_places.specs.World.{Seat, casts_with, empty_seen, left_book, undealt_after}
+use Rattle.rayon_machine_runs.specs.World.{Seat, casts_with, empty_seen, left_book, undealt_after}
 use Rattle.rayon_machine_laws.specs.Attended.{is_calling, owes_cast, HasCaster, IsCastAttended}
 use Rattle.rayon_machine_laws.proofs.Asides.{Aside, steps_aside}
 use Rattle.rayon_machine_laws.proofs.Attend.{is_owing}

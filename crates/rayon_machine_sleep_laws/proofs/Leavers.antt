@@ -10,7 +10,7 @@ use Rattle.rayon_machine_sleep_laws.proofs.Words.{is_walk}
 use Rattle.std.specs.Prelude.{min}
 use Rattle.rayon_machine_places.specs.declared.act.Act.TheVariants.{SubInactive}
 use Rattle.rayon_machine_places.specs.Places.{look_act, push_act}
-use Rattle.rayon_machine_places.specs.World.{count_below}
+use Rattle.rayon_machine_runs.specs.World.{count_below}
 use Rattle.rayon_machine_laws.specs.Leavers.{LeaverLaw, OwesAll, OwesForOne, TellerLaw}
 use Rattle.rayon_machine_laws.proofs.Attended.{always_awake}
 use Rattle.rayon_machine_laws.proofs.Calm.{counts_seen, next_at, part_at}

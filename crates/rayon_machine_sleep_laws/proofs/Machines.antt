@@ -2,8 +2,8 @@
 use Rattle.std.specs.Prelude.{ℕ, zero, suc, Bool, false, ◌||◌, if◌then◌else◌, Option, Some, None, List, [], ◌∷◌}
 use Rattle.rayon_machine_sleep_laws.proofs.Words.{NewestFirst, Party, Worker, Caller, Place, Move, Act, Seen, Refused, Event, Go, Refuse, PoolShape, own_pool, act_of, next_of, is_refusable, Shape, Stack, World, Counts, Part, Outcome, counts_at, target_pool, target_worker, target_call, effect}
 use Rattle.rayon_machine_sleep_laws.proofs.Words.{put, put_stack, part_of, after_move, jobs_after, step, start}
-use Rattle.rayon_machine_places.specs.World.{target_job}
-use Rattle.rayon_machine_places.specs.Steps.{put_seat}
+use Rattle.rayon_machine_runs.specs.World.{target_job}
+use Rattle.rayon_machine_runs.specs.Steps.{put_seat}
 
 -- a machine: what each act does, and where it leads
 pub record Machine : Type 0 where

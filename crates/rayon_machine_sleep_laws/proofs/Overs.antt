@@ -6,10 +6,10 @@ use Rattle.rayon_machine_sleep_laws.proofs.Words.{Over, Job, PoolShape, act_of, 
 use Rattle.rayon_machine_places.specs.declared.place.Share.TheVariants.{Body}
 use Rattle.rayon_machine_places.specs.declared.place.Mark.{Mark as Marking}
 use Rattle.rayon_machine_places.specs.declared.place.Mark.TheVariants.{Numbered, Queued, Dealt, Unnumbered}
-use Rattle.rayon_machine_places.specs.declared.state.Whereabouts.{Whereabouts}
-use Rattle.rayon_machine_places.specs.declared.state.Whereabouts.TheVariants.{HandedBack, Spent}
-use Rattle.rayon_machine_places.specs.World.{begun}
-use Rattle.rayon_machine_places.specs.Steps.{mark_pieces, marked}
+use Rattle.rayon_machine_runs.specs.declared.state.Whereabouts.{Whereabouts}
+use Rattle.rayon_machine_runs.specs.declared.state.Whereabouts.TheVariants.{HandedBack, Spent}
+use Rattle.rayon_machine_runs.specs.World.{begun}
+use Rattle.rayon_machine_runs.specs.Steps.{mark_pieces, marked}
 use Rattle.rayon_machine_laws.specs.Once.{is_with, hand, hand_plan, held, held_in}
 use Rattle.rayon_machine_laws.proofs.Claims.{Says}
 use Rattle.rayon_machine_laws.proofs.Frame.{if_some_all, if_some_map, is_sharing}

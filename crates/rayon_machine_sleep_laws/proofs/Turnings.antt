@@ -7,7 +7,7 @@ use Rattle.rayon_machine_sleep_laws.proofs.Words.{IntoFifo, IntoCast, Broadcast,
 use Rattle.rayon_machine_sleep_laws.proofs.Words.{can_miss, is_pool, holds, new_call, new_gathering, after_move, after_call, after_close, step, after_choice, after_refusal, after_miss, after_end, after_spawn, after_feed, after_deal, after_broadcast, after_send, after_install, after_join}
 use Rattle.rayon_machine_sleep_laws.proofs.Words.{after_scope, after_enter, after_yield, after_end_pool, is_done}
 use Rattle.rayon_machine_places.specs.declared.act.Seen.TheVariants.{Missing, Start}
-use Rattle.rayon_machine_places.specs.Steps.{put_pieces, new_job, new_piece, new_whole}
+use Rattle.rayon_machine_runs.specs.Steps.{put_pieces, new_job, new_piece, new_whole}
 use Rattle.rayon_machine_laws.proofs.Claims.{AllSay, here}
 use Rattle.rayon_machine_laws.proofs.ClaimMakes.{below_new}
 use Rattle.rayon_machine_laws.proofs.Frame.{if_cond, put_same, put_new, put_old, piece_out, fifo_cases, into_cases, into_fifo_cases, into_cast_cases}

@@ -7,7 +7,7 @@ use Rattle.rayon_machine_sleep_laws.proofs.Words.{ℕ, Bool, true, false, ◌&&�
 use Rattle.rayon_machine_sleep_laws.proofs.Words.{Termination, Latch, Count, OfPool, OfScope, OfCast, OfJob, Plain, Token, Place, ProbeWorking, BeginTask, GrowScope, Run, RaiseCount, RaiseForAll, LowerCount, StoreResult, SecondSide, Free, Stopped, Move, Seen, Event, Go, Job, PoolShape, act_of}
 use Rattle.rayon_machine_sleep_laws.proofs.Words.{next_of, same_party, count_kind, fresh, Shape, Stack, World, Counts, Part, counts_at, head_of, target_pool, target_call, put, after_move, after_close, after_resume, step, is_done, IsRun, first_place, start, SetsSo, IsOnce, one, stores_for}
 use Rattle.rayon_machine_sleep_laws.proofs.Words.{lowers_for}
-use Rattle.rayon_machine_places.specs.World.{or_none}
+use Rattle.rayon_machine_places.specs.Targets.{or_none}
 use Rattle.rayon_machine_laws.specs.Bodies.{body, all_bodies, bodies_in}
 use Rattle.rayon_machine_laws.proofs.Claims.{AllSay, Says, SaysRun, call_kind, here, is_body}
 use Rattle.rayon_machine_laws.proofs.ClaimMakes.{always_once, always_calls}

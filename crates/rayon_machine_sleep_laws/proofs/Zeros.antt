@@ -5,7 +5,8 @@ use Rattle.std.proofs.Common.{arith, refl, sym, ◌∙◌, ap, subst, inl, inr, 
 use Rattle.rayon_machine_sleep_laws.proofs.Words.{ℕ, zero, suc, Bool, true, false, ◌&&◌, ◌+◌, ◌-◌, ◌==◌, ◌≤◌, ◌<◌, nat_lt, if◌then◌else◌, Some, None, List, ◌≡◌, ◌⊎◌, IfSome, eqb-true, eq-eqb, lt-ltb, Party, Worker, Caller, Latch, Terminate, OfCall, Scoped, Count, OfPool, OfScope, OfCast, Share}
 use Rattle.rayon_machine_sleep_laws.proofs.Words.{Then, Resume, Pieces, Place, RaiseCount, LowerCount, RaiseForAll, LowerForAll, PushForAll, DealPieces, StoreResult, SetLatch, LockToSettle, WakeSettled, UnlockSettled, SetLockLatch, Stay, Settling, Seen, Done, Refused, Yes, No, PoolShape, act_of}
 use Rattle.rayon_machine_sleep_laws.proofs.Words.{next_of, finish, settle, after_set, set_call, ends_count, plan_count, count_call, count_kind, Shape, World, Counts, Part, Outcome, effect, raised, all_raised, target_pool, target_call, after_move, is_piece, one}
-use Rattle.rayon_machine_places.specs.World.{count_in, count_pool, lowered, all_lowered, pool_less, call_less, pool_more, call_more}
+use Rattle.rayon_machine_runs.specs.World.{count_in, lowered, all_lowered, pool_less, call_less, pool_more, call_more}
+use Rattle.rayon_machine_places.specs.Targets.{count_pool}
 use Rattle.rayon_machine_laws.specs.Shares.{shares, shares_in}
 use Rattle.rayon_machine_laws.proofs.Claims.{SaysCast, KnownCount}
 use Rattle.rayon_machine_laws.proofs.ClaimRuns.{top_says, place_part}

@@ -12,10 +12,10 @@ use Rattle.rayon_machine_places.specs.declared.place.Place.{Place}
 use Rattle.rayon_machine_places.specs.declared.place.Place.TheVariants.{SetLatch, LockToSettle, WakeSettled, UnlockSettled}
 use Rattle.rayon_machine_places.specs.declared.act.Act.{Act}
 use Rattle.rayon_machine_places.specs.declared.act.Act.TheVariants.{Lower, Store}
-use Rattle.rayon_machine_places.specs.declared.state.Letter.TheVariants.{Set as IsSet}
+use Rattle.rayon_machine_runs.specs.declared.state.Letter.TheVariants.{Set as IsSet}
 use Rattle.rayon_machine_places.specs.Places.{act_of}
-use Rattle.rayon_machine_places.specs.World.{World}
-use Rattle.rayon_machine_places.specs.Readers.{is_done}
+use Rattle.rayon_machine_runs.specs.World.{World}
+use Rattle.rayon_machine_runs.specs.Readers.{is_done}
 use Rattle.rayon_machine_laws.specs.Latch.{sets}
 
 -- some party's next act sets the latch of this call, for whatever worker or caller

@@ -5,12 +5,13 @@ use Rattle.std.specs.Prelude.{ℕ, Bool, true, false, ◌+◌, ◌==◌, Some, L
 use Rattle.rayon_machine_places.specs.declared.place.Party.{Party}
 use Rattle.rayon_machine_places.specs.declared.act.Act.{Act}
 use Rattle.rayon_machine_places.specs.declared.act.Act.TheVariants.{Announce, News}
-use Rattle.rayon_machine_places.specs.declared.event.Event.{Event}
-use Rattle.rayon_machine_places.specs.declared.event.Event.TheVariants.{Go}
+use Rattle.rayon_machine_runs.specs.declared.event.Event.{Event}
+use Rattle.rayon_machine_runs.specs.declared.event.Event.TheVariants.{Go}
 use Rattle.rayon_machine_places.specs.Places.{act_of, own_pool}
-use Rattle.rayon_machine_places.specs.World.{Shape, World, is_even}
-use Rattle.rayon_machine_places.specs.Steps.{step}
-use Rattle.rayon_machine_places.specs.Runs.{IsRun, start}
+use Rattle.rayon_machine_runs.specs.World.{Shape, World}
+use Rattle.rayon_machine_places.specs.Sleepers.{is_even}
+use Rattle.rayon_machine_runs.specs.Steps.{step}
+use Rattle.rayon_machine_runs.specs.Runs.{IsRun, start}
 
 -- a party's act is an Announce in this pool
 abbrev pub announces_in : ℕ → Party → Act → Bool

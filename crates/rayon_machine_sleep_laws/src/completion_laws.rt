@@ -1,5 +1,5 @@
 //! The law of completions, the contract of a call without arguments: it holds in every world of every run.
-ghost use Rattle.rayon_machine_places.specs.Runs.{Always};
+ghost use Rattle.rayon_machine_runs.specs.Runs.{Always};
 ghost use Rattle.rayon_machine_sleep_laws.specs.Done.{IsJobDone, IsPoolDone, IsScopeDone};
 
 /// No completion is lost, in any world of any run. Where a job is over that an install or a join has queued and waits

@@ -1,7 +1,7 @@
 //! The laws of sleep and waking, each the contract of a call without arguments: it holds in every world of every run.
 ghost use Rattle.rayon_machine_laws.specs.Attended.{IsCastAttended, IsEmptyHanded, IsInjectorAttended, IsLatchAttended};
 ghost use Rattle.rayon_machine_laws.specs.Leavers.{LeaverLaw, TellerLaw};
-ghost use Rattle.rayon_machine_places.specs.Runs.{Always};
+ghost use Rattle.rayon_machine_runs.specs.Runs.{Always};
 ghost use Rattle.rayon_machine_sleep_laws.specs.Announced.{AnnouncedLaw};
 ghost use Rattle.rayon_machine_sleep_laws.specs.Parity.{RaiseLaw};
 ghost use Rattle.rayon_machine_sleep_laws.specs.Searched.{SearchLaw};

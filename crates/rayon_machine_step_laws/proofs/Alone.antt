@@ -1,9 +1,9 @@
 -- each step is one party's alone, by `leaves` of Actors
 use Rattle.std.specs.Prelude.{IfSome}
-use Rattle.rayon_machine_places.specs.declared.event.Event.{Event}
-use Rattle.rayon_machine_places.specs.declared.event.Event.TheVariants.{Go, From, Refuse, Miss, End, Spawn, Fifo, Cast, Install, Join, Scope as OpenScope, IntoSpawn, IntoFifo, IntoCast, Broadcast, Yield, YieldLocal, EndPool}
-use Rattle.rayon_machine_places.specs.World.{World}
-use Rattle.rayon_machine_places.specs.Steps.{step}
+use Rattle.rayon_machine_runs.specs.declared.event.Event.{Event}
+use Rattle.rayon_machine_runs.specs.declared.event.Event.TheVariants.{Go, From, Refuse, Miss, End, Spawn, Fifo, Cast, Install, Join, Scope as OpenScope, IntoSpawn, IntoFifo, IntoCast, Broadcast, Yield, YieldLocal, EndPool}
+use Rattle.rayon_machine_runs.specs.World.{World}
+use Rattle.rayon_machine_runs.specs.Steps.{step}
 use Rattle.rayon_machine_laws.proofs.Stops.{made}
 use Rattle.rayon_machine_step_laws.specs.Alone.{OthersLaw, party_of}
 use Rattle.rayon_machine_step_laws.proofs.Actors.{Leaves, leaves}

@@ -5,11 +5,11 @@ use Rattle.std.specs.Prelude.{true, false, Option, Some, None, List, [], ◌∷�
 use Rattle.rayon_machine_places.specs.declared.place.Target.TheVariants.{Termination}
 use Rattle.rayon_machine_places.specs.declared.place.Place.TheVariants.{ProbeWorking}
 use Rattle.rayon_machine_places.specs.declared.act.Act.TheVariants.{Wake}
-use Rattle.rayon_machine_places.specs.declared.event.Event.{Event}
-use Rattle.rayon_machine_places.specs.declared.event.Event.TheVariants.{Go, Spawn}
+use Rattle.rayon_machine_runs.specs.declared.event.Event.{Event}
+use Rattle.rayon_machine_runs.specs.declared.event.Event.TheVariants.{Go, Spawn}
 use Rattle.rayon_machine_places.specs.Places.{act_of, fresh, same_party}
-use Rattle.rayon_machine_places.specs.World.{World}
-use Rattle.rayon_machine_places.specs.Steps.{with_stack}
+use Rattle.rayon_machine_runs.specs.World.{World}
+use Rattle.rayon_machine_runs.specs.Steps.{with_stack}
 use Rattle.rayon_machine_laws.specs.Seats.{relocks_at}
 use Rattle.rayon_machine_sleep_laws.proofs.Machines.{right, step_by, run_by, times_go, pool_of, a, c}
 use Rattle.rayon_machine_step_laws.specs.Alone.{party_of}

@@ -32,7 +32,7 @@ use Rattle.rayon_machine_places.specs.declared.act.Seen.{Seen}
 use Rattle.rayon_machine_places.specs.declared.act.Seen.TheVariants.{Done, Yes, Task, Jec, Word, Start, Wakes, Begun, Found, Handed, Opened}
 use Rattle.rayon_machine_places.specs.declared.shape.PoolShape.{PoolShape}
 use Rattle.rayon_machine_places.specs.Places.{after_failure, after_news, after_found, after_wait, begin_feed, begin_cast, settle_count, end_cast, ends_count, finish, is_taken, next_of, next_steal, next_victim, next_yield, not_self, own_index, own_pool, plan_book, plan_pool, count_book, set_call, settle, after_set, after_slot, taken_number, walk, withdraw}
-use Rattle.rayon_machine_places.specs.Steps.{after_move}
+use Rattle.rayon_machine_runs.specs.Steps.{after_move}
 use Rattle.rayon_machine_step_laws.specs.Enabled.{is_worker}
 use Rattle.rayon_machine_step_laws.specs.Lowest.{Lowest, lowest_at, then_lowest, wait_lowest}
 

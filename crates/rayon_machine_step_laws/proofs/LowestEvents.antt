@@ -19,13 +19,14 @@ use Rattle.rayon_machine_places.specs.declared.place.OpenCall.{OpenCall}
 use Rattle.rayon_machine_places.specs.declared.place.Then.TheVariants.{Resume}
 use Rattle.rayon_machine_places.specs.declared.place.Place.{Place}
 use Rattle.rayon_machine_places.specs.declared.place.Place.TheVariants.{ProbeWorking, PickVictim, StealFrom, YieldPop, YieldPick, YieldSteal, LocalPop, Run, RaiseCount, GrowCall, GrowScope, OpenSlot, PushJob, AddToFifo, PushToken, TakeFromFifo, RaiseForAll, OpenForAll, PushForAll, LowerForAll, GrowCast, DealPieces, LowerCount, FirstSide, SecondSide, ScopeBody, AtOnce, Free, Stopped, WaitForLock, BeginTask, LookQueue}
-use Rattle.rayon_machine_places.specs.declared.event.Event.{Event}
-use Rattle.rayon_machine_places.specs.declared.event.Event.TheVariants.{Go, From, Refuse, Miss, End, Spawn, Fifo, Install, Join, Yield, YieldLocal, EndPool, Cast, Scope as OpenScope, IntoSpawn, IntoFifo, IntoCast, Broadcast}
-use Rattle.rayon_machine_places.specs.declared.state.Scope.{Scope}
+use Rattle.rayon_machine_runs.specs.declared.event.Event.{Event}
+use Rattle.rayon_machine_runs.specs.declared.event.Event.TheVariants.{Go, From, Refuse, Miss, End, Spawn, Fifo, Install, Join, Yield, YieldLocal, EndPool, Cast, Scope as OpenScope, IntoSpawn, IntoFifo, IntoCast, Broadcast}
+use Rattle.rayon_machine_runs.specs.declared.state.Scope.{Scope}
 use Rattle.rayon_machine_places.specs.Places.{act_of, own_pool, own_index, same_party, is_free, is_member, not_self, next_steal, next_yield, plan_book, undo, after_push, end_cast, goes_on, fresh, plan_pool, plan_job}
-use Rattle.rayon_machine_places.specs.World.{Shape, Stack, World, target_pool, target_worker, target_call, Part}
-use Rattle.rayon_machine_places.specs.Steps.{put_stack, with_stack, after_move, after_resume, after_close, after_call, after_choice, after_refusal, after_miss, after_end, after_spawn, after_feed, after_deal, after_gather, after_broadcast, after_send, after_join, after_scope, after_enter, after_yield, can_miss, holds, is_pool, step}
-use Rattle.rayon_machine_places.specs.Runs.{IsRun, start}
+use Rattle.rayon_machine_runs.specs.World.{Shape, Stack, World, Part}
+use Rattle.rayon_machine_places.specs.Targets.{target_pool, target_worker, target_call}
+use Rattle.rayon_machine_runs.specs.Steps.{put_stack, with_stack, after_move, after_resume, after_close, after_call, after_choice, after_refusal, after_miss, after_end, after_spawn, after_feed, after_deal, after_gather, after_broadcast, after_send, after_join, after_scope, after_enter, after_yield, can_miss, holds, is_pool, step}
+use Rattle.rayon_machine_runs.specs.Runs.{IsRun, start}
 use Rattle.rayon_machine_places.specs.declared.act.Act.TheVariants.{LockWait, LookOwn, LookInj, PushOwn, PushInj}
 use Rattle.rayon_machine_places.specs.declared.act.Seen.{Seen}
 use Rattle.rayon_machine_places.specs.declared.place.Taken.TheVariants.{Plain, Token}

@@ -5,7 +5,7 @@ use Rattle.rayon_machine_sleep_laws.proofs.Words.{ℕ, zero, suc, Bool, true, fa
 use Rattle.rayon_machine_sleep_laws.proofs.Words.{YieldPick, YieldPopInjected, LocalTakeCast, BeginTask, TellNews, AtOnce, Free, Stopped, Act, LookOwn, PushInj, News, Take, Event, Go, From, Refuse, Miss, End, Spawn, Fifo, Install, OpenScope, IntoSpawn, Yield, YieldLocal, EndPool, act_of, fresh}
 use Rattle.rayon_machine_sleep_laws.proofs.Words.{is_free, is_rest, victim_of, Stack, World, is_held_by, is_pool, step, with_stack, start, Spot, OwnDeque, OwnCast, Injector, Look, and_then, whole_search}
 use Rattle.rayon_machine_places.specs.declared.act.Act.TheVariants.{Load}
-use Rattle.rayon_machine_places.specs.Steps.{back}
+use Rattle.rayon_machine_runs.specs.Steps.{back}
 use Rattle.rayon_machine_step_laws.specs.Yields.{local_search, yield_look_of}
 use Rattle.rayon_machine_step_laws.specs.Enabled.{can_refuse, has_act, is_enabled, is_open_to, is_run, steal_misses}
 

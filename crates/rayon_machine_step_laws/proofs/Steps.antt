@@ -9,8 +9,8 @@ use Rattle.rayon_machine_sleep_laws.proofs.Words.{counts_at, target_pool, target
 use Rattle.rayon_machine_sleep_laws.proofs.Words.{after_enter_cast, after_join, after_yield, after_feed, can_miss, holds, is_pool, locks_at, book_at}
 use Rattle.rayon_machine_places.specs.declared.act.Act.TheVariants.{PopOwn, TakeCast, Steal, PopInj, TryAdd, FifoIn, FifoUndo, FifoOut, RaiseAll, LockWait, Raise, Slot, SlotUndo, SlotAll, SlotUndoAll, StoreBody as PutBody, StoreSlot as PutSlot}
 use Rattle.rayon_machine_places.specs.Places.{is_pick}
-use Rattle.rayon_machine_places.specs.World.{sleepy, wake_up, set_latch, lock_wait, found, fifo_back, fifo_first, is_free_lock, is_open}
-use Rattle.rayon_machine_places.specs.Steps.{after_outcome, act_at}
+use Rattle.rayon_machine_runs.specs.World.{sleepy, wake_up, set_latch, lock_wait, found, fifo_back, fifo_first, is_free_lock, is_open}
+use Rattle.rayon_machine_runs.specs.Steps.{after_outcome, act_at}
 use Rattle.rayon_machine_laws.proofs.Frame.{same_party_refl, same_refl, same_list_refl}
 use Rattle.rayon_machine_laws.proofs.Feeders.{FeedersHold}
 use Rattle.rayon_machine_laws.proofs.Held.{HoldersHold}

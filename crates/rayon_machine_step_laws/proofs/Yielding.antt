@@ -8,7 +8,7 @@ use Rattle.rayon_machine_sleep_laws.proofs.Words.{Place, PickVictim, StealFrom, 
 use Rattle.rayon_machine_sleep_laws.proofs.Words.{next_yield, Shape, Stack, World, Part, target_pool, target_worker, target_call, own_of, own_left, head_of, but_first, popped, take_cast, pop_injector, after_move, after_call, after_choice, after_miss, after_yield, can_miss, with_stack, step}
 use Rattle.rayon_machine_sleep_laws.proofs.Words.{is_filled, Spot, OwnDeque, OwnCast, Deque, Injector, Look, and_then, others, whole_search}
 use Rattle.rayon_machine_places.specs.declared.shape.Order.TheVariants.{OldestFirst}
-use Rattle.rayon_machine_places.specs.World.{taken_as}
+use Rattle.rayon_machine_places.specs.Targets.{taken_as}
 use Rattle.rayon_machine_laws.proofs.Calm.{part_at, next_at}
 use Rattle.rayon_machine_laws.proofs.Emptied.{own_none}
 use Rattle.rayon_machine_laws.proofs.Frame.{acted_keeps, either, if_cond, if_some_map, same_party_true, same_refl, stack_mine}

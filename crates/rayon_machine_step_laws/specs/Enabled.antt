@@ -10,14 +10,15 @@ use Rattle.rayon_machine_places.specs.declared.place.Place.{Place}
 use Rattle.rayon_machine_places.specs.declared.place.Place.TheVariants.{Run, Stopped}
 use Rattle.rayon_machine_places.specs.declared.act.Act.{Act}
 use Rattle.rayon_machine_places.specs.declared.act.Act.TheVariants.{Lock, LockWait, Slot, SlotAll, StoreBody as PutBody, StoreSlot as PutSlot, FifoIn, FifoOut, Grow, PushOwn, PushInj, PushCast, Idle}
-use Rattle.rayon_machine_places.specs.declared.event.Event.{Event}
-use Rattle.rayon_machine_places.specs.declared.event.Event.TheVariants.{Go, From, Refuse, Miss, End, Spawn, Fifo, Cast, Install, Join, Scope as OpenScope, IntoSpawn, IntoFifo, IntoCast, Broadcast, Yield, YieldLocal, EndPool}
-use Rattle.rayon_machine_places.specs.declared.state.Letter.{Letter}
-use Rattle.rayon_machine_places.specs.declared.state.Letter.TheVariants.{Set as IsSet}
-use Rattle.rayon_machine_places.specs.declared.state.Scope.{Scope}
+use Rattle.rayon_machine_runs.specs.declared.event.Event.{Event}
+use Rattle.rayon_machine_runs.specs.declared.event.Event.TheVariants.{Go, From, Refuse, Miss, End, Spawn, Fifo, Cast, Install, Join, Scope as OpenScope, IntoSpawn, IntoFifo, IntoCast, Broadcast, Yield, YieldLocal, EndPool}
+use Rattle.rayon_machine_runs.specs.declared.state.Letter.{Letter}
+use Rattle.rayon_machine_runs.specs.declared.state.Letter.TheVariants.{Set as IsSet}
+use Rattle.rayon_machine_runs.specs.declared.state.Scope.{Scope}
 use Rattle.rayon_machine_places.specs.Places.{own_pool, act_of, count_call, is_pick, victim_of, is_rest, is_free}
-use Rattle.rayon_machine_places.specs.World.{World, is_own, is_free_lock, is_held_by, is_open}
-use Rattle.rayon_machine_places.specs.Steps.{can_miss, holds, is_pool, step}
+use Rattle.rayon_machine_runs.specs.World.{World, is_free_lock, is_held_by, is_open}
+use Rattle.rayon_machine_places.specs.Targets.{is_own}
+use Rattle.rayon_machine_runs.specs.Steps.{can_miss, holds, is_pool, step}
 
 -- a world allows an event: there is a world after it
 abbrev pub is_enabled : World → Event → Bool

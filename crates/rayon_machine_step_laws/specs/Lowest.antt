@@ -12,7 +12,7 @@ use Rattle.rayon_machine_places.specs.declared.place.Place.{Place}
 use Rattle.rayon_machine_places.specs.declared.place.Place.TheVariants.{ProbeWorking, PopWorking, TakeCastWorking, BecomeInactive, ProbeIdle, PopIdle, TakeCastIdle, PickVictim, StealFrom, PopInjected, AnnounceSelf, GetSleepy, LockOwn, FallAsleep, LoadCounters, AddSleeping, LookAtCast, LookAtInjector, BlockSelf, RelockOwn, UndoSleeping, WakeUp, UnlockOwn, LeaveSearch, LockToWake, WakeWorker, UnlockWoken, LowerCount, SetLatch, LockToSettle, WakeSettled, UnlockSettled, SetLockLatch, Free, Stopped}
 use Rattle.rayon_machine_places.specs.declared.act.Act.TheVariants.{LockWait}
 use Rattle.rayon_machine_places.specs.Places.{act_of}
-use Rattle.rayon_machine_places.specs.World.{Shape, World}
+use Rattle.rayon_machine_runs.specs.World.{Shape, World}
 use Rattle.rayon_machine_step_laws.specs.Enabled.{is_worker}
 
 -- what stands lowest on a stack: the place where a party is free with no call open, or the wait for the end of a pool, up

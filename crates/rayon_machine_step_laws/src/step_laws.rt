@@ -1,5 +1,5 @@
 //! The laws of steps, each the contract of a call without arguments: it holds in every world of every run.
-ghost use Rattle.rayon_machine_places.specs.Runs.{Always};
+ghost use Rattle.rayon_machine_runs.specs.Runs.{Always};
 ghost use Rattle.rayon_machine_step_laws.specs.Alone.{OthersLaw};
 ghost use Rattle.rayon_machine_step_laws.specs.Enabled.{AllowsActs, AllowsCalls, AllowsChoices, AllowsEnds};
 ghost use Rattle.rayon_machine_step_laws.specs.Enabled.{AllowsGo, AllowsHolders, AllowsRefusals};

@@ -6,11 +6,11 @@ use Rattle.rayon_machine_places.specs.declared.place.Place.{Place}
 use Rattle.rayon_machine_places.specs.declared.place.Move.{Move}
 use Rattle.rayon_machine_places.specs.declared.act.Act.{Act}
 use Rattle.rayon_machine_parts.specs.declared.deed.Deed.{Deed}
-use Rattle.rayon_machine_places.specs.declared.event.Event.TheVariants.{Go}
+use Rattle.rayon_machine_runs.specs.declared.event.Event.TheVariants.{Go}
 use Rattle.rayon_machine_world.specs.declared.world.World.{World as StoredWorld}
 use Rattle.rayon_machine_places.specs.Places.{act_of, next_of}
-use Rattle.rayon_machine_places.specs.World.{Outcome, Stack, World}
-use Rattle.rayon_machine_places.specs.Steps.{after_outcome, after, step}
+use Rattle.rayon_machine_runs.specs.World.{Outcome, Stack, World}
+use Rattle.rayon_machine_runs.specs.Steps.{after_outcome, after, step}
 use Rattle.rayon_machine_numbers.specs.Numbers.{part_queued, with_touched}
 use Rattle.rayon_machine_parts.specs.State.{IsDeed, IsNoDeed, part_at_spot, shape_of, spot_of}
 use Rattle.rayon_machine_world.specs.Running.{IsPerformed, world_of}

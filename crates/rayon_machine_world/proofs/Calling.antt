@@ -18,12 +18,12 @@ use Rattle.rayon_machine_places.specs.declared.place.Gathering.{Gathering}
 use Rattle.rayon_machine_places.specs.declared.place.Share.TheVariants.{PoolValue}
 use Rattle.rayon_machine_places.specs.declared.place.Count.TheVariants.{OfPool, OfScope, OfCast}
 use Rattle.rayon_machine_places.specs.declared.place.Then.TheVariants.{Resume}
-use Rattle.rayon_machine_places.specs.declared.state.Job.{Job}
-use Rattle.rayon_machine_places.specs.declared.state.Scope.{Scope}
-use Rattle.rayon_machine_places.specs.declared.state.Whereabouts.TheVariants.{Over}
+use Rattle.rayon_machine_runs.specs.declared.state.Job.{Job}
+use Rattle.rayon_machine_runs.specs.declared.state.Scope.{Scope}
+use Rattle.rayon_machine_runs.specs.declared.state.Whereabouts.TheVariants.{Over}
 use Rattle.rayon_machine_places.specs.Places.{is_free, is_member, own_index}
-use Rattle.rayon_machine_places.specs.World.{World, at_job}
-use Rattle.rayon_machine_places.specs.Steps.{after_broadcast, after_cast, after_close, after_end, after_end_pool, after_enter, after_enter_fifo, after_feed, after_fifo, after_install, holds, is_pool, after_into_cast, after_join, after_scope, new_job, put, put_stack, after_spawn, after_move}
+use Rattle.rayon_machine_runs.specs.World.{World, at_job}
+use Rattle.rayon_machine_runs.specs.Steps.{after_broadcast, after_cast, after_close, after_end, after_end_pool, after_enter, after_enter_fifo, after_feed, after_fifo, after_install, holds, is_pool, after_into_cast, after_join, after_scope, new_job, put, put_stack, after_spawn, after_move}
 use Rattle.rayon_machine_world.specs.Running.{after_open_cast, after_open_feed, after_open_gather, after_open_join, after_open_job, after_open_call, after_open_scope, after_own_enter, after_own_fifo}
 
 pub spawned-is : (w : World) (q : Party) (p : ℕ) (x : Place) (job : Job) → x ≡ (w.stack q).top → is_free x ≡ true → is_pool w.shape p ≡ true → job ≡ new_job q p (Detached p) → after_spawn w q p (w.stack q) ≡ Some (after_open_job w q x (Detach p w.jobs) job)

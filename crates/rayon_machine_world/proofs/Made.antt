@@ -2,9 +2,9 @@
 use Rattle.std.proofs.Common.{◌≡◌, sym, ◌∙◌, ap}
 use Rattle.std.specs.Prelude.{Option, Some, None, Result}
 use Rattle.std.proofs.lemmas.Result.{on_ok_weaker, IfErr-weaker}
-use Rattle.rayon_machine_places.specs.declared.error.StepError.{StepError}
-use Rattle.rayon_machine_places.specs.declared.error.StepError.TheVariants.{NotEnabled, NoRoom}
-use Rattle.rayon_machine_places.specs.World.{World}
+use Rattle.rayon_machine_runs.specs.declared.error.StepError.{StepError}
+use Rattle.rayon_machine_runs.specs.declared.error.StepError.TheVariants.{NotEnabled, NoRoom}
+use Rattle.rayon_machine_runs.specs.World.{World}
 use Rattle.rayon_machine_world.specs.Running.{IsMade, IsStepOf}
 
 pub made-is : {next : Option World} {x : World} {r : Result (Unit {0}) StepError} {w u : World} → next ≡ Some x → IsMade x r w u → IsStepOf next r w u

@@ -1,10 +1,10 @@
 -- runs that grow by a step
 use Rattle.std.proofs.Common.{◌≡◌, ◌<◌, ◌≤◌, ℕ, zero, suc, refl, sym, subst, List, [], ◌∷◌, Some, length, get_or, take, slice_get, IfSome, arith}
 use Rattle.std.proofs.lemmas.Option.{slice_get-get_or}
-use Rattle.rayon_machine_places.specs.declared.event.Event.{Event}
-use Rattle.rayon_machine_places.specs.World.{World}
-use Rattle.rayon_machine_places.specs.Runs.{IsRun}
-use Rattle.rayon_machine_places.specs.Steps.{step}
+use Rattle.rayon_machine_runs.specs.declared.event.Event.{Event}
+use Rattle.rayon_machine_runs.specs.World.{World}
+use Rattle.rayon_machine_runs.specs.Runs.{IsRun}
+use Rattle.rayon_machine_runs.specs.Steps.{step}
 
 -- a run of the first events, and a step of the next one
 pub run-next : (w : World) (es : List Event) (i : ℕ) (d : Event) (u v : World) → i < length es → IsRun w (take i es) u → step u (get_or es i d) ≡ Some v → IsRun w (take (suc i) es) v

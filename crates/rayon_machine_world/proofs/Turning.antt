@@ -8,10 +8,10 @@ use Rattle.rayon_machine_places.specs.declared.place.Place.TheVariants.{PickVict
 use Rattle.rayon_machine_places.specs.declared.place.Move.{Move}
 use Rattle.rayon_machine_places.specs.declared.place.Move.TheVariants.{Enter}
 use Rattle.rayon_machine_places.specs.declared.act.Seen.TheVariants.{Missing, Refused, Start}
-use Rattle.rayon_machine_places.specs.declared.event.Event.TheVariants.{From, Miss, Refuse}
+use Rattle.rayon_machine_runs.specs.declared.event.Event.TheVariants.{From, Miss, Refuse}
 use Rattle.rayon_machine_places.specs.Places.{is_free, is_refusable, next_of, own_pool, is_pick, victim_of}
-use Rattle.rayon_machine_places.specs.World.{World, Stack}
-use Rattle.rayon_machine_places.specs.Steps.{can_miss, after_choice, after_miss, with_stack, seeing, step, after_move, after_yield}
+use Rattle.rayon_machine_runs.specs.World.{World, Stack}
+use Rattle.rayon_machine_runs.specs.Steps.{can_miss, after_choice, after_miss, with_stack, seeing, step, after_move, after_yield}
 
 pub refused-turn : (w : World) (q : Party) (x : Place) (m : Move) → x ≡ (w.stack q).top → is_refusable x ≡ true → m ≡ next_of (w.shape.pool (own_pool q)) q x Refused → step w (Refuse q) ≡ Some (with_stack w q (after_move m (w.stack q).below))
 refused-turn w q x m ex k em =

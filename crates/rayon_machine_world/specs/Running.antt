@@ -1,7 +1,7 @@
 -- what a running world stands for, and what its steps leave
 use Rattle.std.specs.Prelude.{ℕ, ◌&&◌, ◌+◌, if◌then◌else◌, Option, Some, None, List, [], ◌∷◌, ◌++◌, Result, ◌≡◌, IfErr, OnErr, OnOk}
-use Rattle.rayon_machine_places.specs.declared.error.StepError.{StepError}
-use Rattle.rayon_machine_places.specs.declared.error.StepError.TheVariants.{NotEnabled, NoRoom}
+use Rattle.rayon_machine_runs.specs.declared.error.StepError.{StepError}
+use Rattle.rayon_machine_runs.specs.declared.error.StepError.TheVariants.{NotEnabled, NoRoom}
 use Rattle.rayon_machine_places.specs.declared.place.Party.{Party}
 use Rattle.rayon_machine_places.specs.declared.place.Party.TheVariants.{Worker}
 use Rattle.rayon_machine_places.specs.declared.place.Place.{Place}
@@ -13,13 +13,13 @@ use Rattle.rayon_machine_places.specs.declared.place.Plan.{Plan}
 use Rattle.rayon_machine_places.specs.declared.place.Plan.TheVariants.{Gather}
 use Rattle.rayon_machine_places.specs.declared.place.Gathering.{Gathering}
 use Rattle.rayon_machine_places.specs.declared.place.Count.TheVariants.{OfPool, OfScope}
-use Rattle.rayon_machine_places.specs.declared.state.Job.{Job}
-use Rattle.rayon_machine_places.specs.declared.state.Scope.{Scope}
+use Rattle.rayon_machine_runs.specs.declared.state.Job.{Job}
+use Rattle.rayon_machine_runs.specs.declared.state.Scope.{Scope}
 use Rattle.rayon_machine_parts.specs.declared.deed.Deed.{Deed}
 use Rattle.rayon_machine_world.specs.declared.world.World.{World as StoredWorld}
 use Rattle.rayon_machine_places.specs.Places.{is_free, own_index}
-use Rattle.rayon_machine_places.specs.Steps.{after_feed, holds, is_pool, jobs_after, new_call, new_gathering, new_piece, new_whole, put, put_pieces, put_seat, put_stack, after_move}
-use Rattle.rayon_machine_places.specs.World.{World}
+use Rattle.rayon_machine_runs.specs.Steps.{after_feed, holds, is_pool, jobs_after, new_call, new_gathering, new_piece, new_whole, put, put_pieces, put_seat, put_stack, after_move}
+use Rattle.rayon_machine_runs.specs.World.{World}
 use Rattle.rayon_machine_numbers.specs.Numbers.{pool_queued, seat_queued, with_flags, with_numbers}
 use Rattle.rayon_machine_parts.specs.State.{call_at, job_at, pool_at, seat_at, shape_of, stack_in}
 

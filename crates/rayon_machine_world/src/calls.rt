@@ -1,24 +1,24 @@
 //! The steps in which a call begins or a run ends.
 ghost use Rattle.std.specs.Prelude.{◌≡◌, OnOk, false, IfErr, None, OnErr, Some};
-ghost use Rattle.rayon_machine_places.specs.Steps.{put, after_move, put_stack, after_close, after_end, after_end_pool, after_fifo, after_install, after_join, after_spawn};
+ghost use Rattle.rayon_machine_runs.specs.Steps.{put, after_move, put_stack, after_close, after_end, after_end_pool, after_fifo, after_install, after_join, after_spawn};
 ghost use Rattle.rayon_machine_world.specs.Running.{IsMade, IsStepOf, world_of, after_open_feed, after_open_join, after_open_job, after_open_call, after_own_fifo};
-ghost use Rattle.rayon_machine_places.specs.World.{at_job};
+ghost use Rattle.rayon_machine_runs.specs.World.{at_job};
 ghost use Rattle.rayon_machine_places.specs.declared.place.Move.TheVariants.{Enter};
 ghost use Rattle.rayon_machine_places.specs.declared.place.Place.TheVariants.{LowerCount};
 ghost use Rattle.rayon_machine_places.specs.declared.place.Count.TheVariants.{OfPool};
 ghost use Rattle.rayon_machine_places.specs.declared.place.Share.TheVariants.{PoolValue};
 ghost use Rattle.rayon_machine_places.specs.declared.place.Then.TheVariants.{Resume};
-ghost use Rattle.rayon_machine_places.specs.declared.state.Whereabouts.TheVariants.{Over};
+ghost use Rattle.rayon_machine_runs.specs.declared.state.Whereabouts.TheVariants.{Over};
 
 use crate::world::World;
 use rayon_machine_parts::commit::move_job;
 use rayon_machine_parts::growth::{grow_calls, grow_jobs, grow_pools};
 use rayon_machine_parts::writes::{release, write_call, write_job, write_jobs};
-use rayon_machine_places::error::StepError;
 use rayon_machine_places::place::{
     Count, Ending, Feeding, JobKind, Move, OpenCall, Party, Place, Plan, Share, Then,
 };
-use rayon_machine_places::state::{Call, Job, Whereabouts};
+use rayon_machine_runs::error::StepError;
+use rayon_machine_runs::state::{Call, Job, Whereabouts};
 
 impl World {
     /// A call of one job begins.

@@ -1,14 +1,14 @@
 //! The steps in which a broadcast begins.
 ghost use Rattle.std.specs.Prelude.{◌≡◌, ◌+◌, OnErr, OnOk, IfErr};
-ghost use Rattle.rayon_machine_places.specs.Steps.{after_broadcast, after_cast, after_into_cast};
+ghost use Rattle.rayon_machine_runs.specs.Steps.{after_broadcast, after_cast, after_into_cast};
 ghost use Rattle.rayon_machine_world.specs.Running.{IsMade, IsStepOf, after_open_cast, after_open_gather, world_of};
 
 use crate::world::World;
 use rayon_machine_parts::growth::{grow_calls, grow_jobs};
 use rayon_machine_parts::writes::{write_call, write_job, write_pieces};
-use rayon_machine_places::error::StepError;
 use rayon_machine_places::place::{Count, Gathering, Move, OpenCall, Party, Pieces, Place, Plan};
-use rayon_machine_places::state::{Call, Job};
+use rayon_machine_runs::error::StepError;
+use rayon_machine_runs::state::{Call, Job};
 
 impl World {
     /// A party makes a piece for each worker of a pool.

@@ -2,9 +2,10 @@
 ghost use Rattle.std.specs.Prelude.{◌≡◌, ◌<◌, true, false, None, ◌≤◌, length, IfSome, IsSome};
 ghost use Rattle.rayon_machine_places.specs.declared.place.Party.TheVariants.{Worker};
 ghost use Rattle.rayon_machine_world.specs.Running.{world_of};
-ghost use Rattle.rayon_machine_places.specs.Readers.{is_done, is_queued, is_running, jobs_that, next_at};
-ghost use Rattle.rayon_machine_places.specs.Steps.{is_pool};
-ghost use Rattle.rayon_machine_places.specs.World.{counts_at};
+ghost use Rattle.rayon_machine_runs.specs.Readers.{is_done, is_queued, is_running, jobs_that};
+ghost use Rattle.rayon_machine_places.specs.Places.{next_at};
+ghost use Rattle.rayon_machine_runs.specs.Steps.{is_pool};
+ghost use Rattle.rayon_machine_runs.specs.World.{counts_at};
 
 use crate::world::World;
 pub use rayon_machine_parts::parts::JobTotals;

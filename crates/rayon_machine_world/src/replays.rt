@@ -1,12 +1,12 @@
 //! Runs of a world: events one after the other.
 ghost use Rattle.std.specs.Prelude.{◌≡◌, OnOk, ◌<◌, IfErr, None, length, IfSome, slice_get, take};
 ghost use Rattle.rayon_machine_world.specs.Running.{world_of};
-ghost use Rattle.rayon_machine_places.specs.Steps.{step as step_of};
-ghost use Rattle.rayon_machine_places.specs.Runs.{IsRun};
+ghost use Rattle.rayon_machine_runs.specs.Steps.{step as step_of};
+ghost use Rattle.rayon_machine_runs.specs.Runs.{IsRun};
 
 use crate::world::World;
-use rayon_machine_places::error::StepError;
-use rayon_machine_places::event::Event;
+use rayon_machine_runs::error::StepError;
+use rayon_machine_runs::event::Event;
 
 impl World {
     /// Makes the steps of these events in order, up to the first that is refused: it answers that event's index,

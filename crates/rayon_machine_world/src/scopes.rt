@@ -1,16 +1,16 @@
 //! The steps in which a scope is opened, or a job is spawned into one.
 ghost use Rattle.std.specs.Prelude.{◌≡◌, Some, OnErr, OnOk, [], ◌∷◌, ◌++◌, slice_get};
-ghost use Rattle.rayon_machine_places.specs.Steps.{after_enter, after_into, after_into_fifo, after_scope};
+ghost use Rattle.rayon_machine_runs.specs.Steps.{after_enter, after_into, after_into_fifo, after_scope};
 ghost use Rattle.rayon_machine_world.specs.Running.{IsMade, IsStepOf, after_open_scope, after_own_enter, world_of};
 
 use crate::world::World;
 use rayon_machine_parts::growth::{grow_calls, grow_jobs};
 use rayon_machine_parts::writes::{write_call, write_job};
-use rayon_machine_places::error::StepError;
 use rayon_machine_places::place::{
     Count, Entry, Feeding, JobKind, Move, OpenCall, Party, Place, Plan,
 };
-use rayon_machine_places::state::{Call, Job, Scope};
+use rayon_machine_runs::error::StepError;
+use rayon_machine_runs::state::{Call, Job, Scope};
 use std::alloc::AllocError;
 
 /// A scope is added last.

@@ -1,7 +1,8 @@
 //! Start worlds.
 ghost use Rattle.std.specs.Prelude.{◌≡◌, OnOk, true, false, IfErr, IfOk, All};
-ghost use Rattle.rayon_machine_places.specs.Runs.{start as start_of};
-ghost use Rattle.rayon_machine_places.specs.Starts.{IsPoolShape, IsShape};
+ghost use Rattle.rayon_machine_runs.specs.Runs.{start as start_of};
+ghost use Rattle.rayon_machine_places.specs.Shapes.{IsPoolShape};
+ghost use Rattle.rayon_machine_runs.specs.Starts.{IsShape};
 ghost use Rattle.rayon_machine_parts.specs.State.{listed};
 ghost use Rattle.rayon_machine_world.specs.Running.{world_of};
 
@@ -9,8 +10,8 @@ use crate::world::World;
 use rayon_machine_parts::parties::Parties;
 use rayon_machine_parts::parts::Parts;
 use rayon_machine_parts::shapes::Shapes;
-use rayon_machine_places::error::StartError;
 use rayon_machine_places::shape::PoolShape;
+use rayon_machine_runs::error::StartError;
 use std::alloc::Global;
 
 /// The most pools of a world.

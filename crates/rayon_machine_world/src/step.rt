@@ -1,17 +1,17 @@
 //! One step of the running world.
 ghost use Rattle.std.specs.Prelude.{◌≡◌, OnOk, IfErr, None, OnErr, Some};
 ghost use Rattle.rayon_machine_world.specs.Running.{IsMade, IsStepOf, world_of, IsPerformed};
-ghost use Rattle.rayon_machine_places.specs.Steps.{with_stack, step as step_of, after_move, after_yield};
-ghost use Rattle.rayon_machine_places.specs.declared.event.Event.TheVariants.{From, Go, Miss, Refuse};
+ghost use Rattle.rayon_machine_runs.specs.Steps.{with_stack, step as step_of, after_move, after_yield};
+ghost use Rattle.rayon_machine_runs.specs.declared.event.Event.TheVariants.{From, Go, Miss, Refuse};
 ghost use Rattle.rayon_machine_parts.specs.State.{stack_in, shape_of};
 
 use crate::world::World;
 use rayon_machine_parts::commit::{last_job, move_jobs, pieces_fit};
 use rayon_machine_parts::deed::Deed;
 use rayon_machine_places::act::Seen;
-use rayon_machine_places::error::StepError;
-use rayon_machine_places::event::Event;
 use rayon_machine_places::place::{Move, Party, Place};
+use rayon_machine_runs::error::StepError;
+use rayon_machine_runs::event::Event;
 
 impl World {
     /// Makes one step: an event of one party. NotEnabled exactly where the event is not enabled in this world; NoRoom,

@@ -3,7 +3,7 @@
 use rayon_machine_parts::parties::Parties;
 use rayon_machine_parts::parts::Parts;
 use rayon_machine_parts::shapes::Shapes;
-use rayon_machine_places::state::Scope;
+use rayon_machine_runs::state::Scope;
 use std::alloc::Global;
 
 /// A world of pools, workers and 16 outside callers.

@@ -1,5 +1,5 @@
 use Rattle.std.proofs.Common.{ℕ, ◌≡◌, ◌+◌, ◌-◌, vec_len}
-use Rattle.rayon_machine_places.specs.World.{Shape}
+use Rattle.rayon_machine_runs.specs.World.{Shape}
 use Rattle.rayon_machine_parts.specs.State.{worker_in}
 use Rattle.rayon_machine_parts.proofs.growth.grow_crews.Given as goal
 

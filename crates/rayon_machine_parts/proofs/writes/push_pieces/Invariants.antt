@@ -1,5 +1,5 @@
 use Rattle.std.proofs.Common.{ℕ, ◌≡◌, ◌≤◌, ◌+◌}
-use Rattle.rayon_machine_places.specs.World.{casts_with}
+use Rattle.rayon_machine_runs.specs.World.{casts_with}
 use Rattle.rayon_machine_parts.specs.State.{CastsFrom, cast_at}
 use Rattle.rayon_machine_parts.proofs.writes.push_pieces.Given as goal
 

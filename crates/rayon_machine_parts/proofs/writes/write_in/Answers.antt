@@ -1,6 +1,6 @@
 use Rattle.std.proofs.Common.{◌≡◌, ◌∙◌, ◌<◌, ℕ, ap, length}
 use Rattle.std.specs.Prelude.{if◌then◌else◌, ◌==◌}
-use Rattle.rayon_machine_places.specs.World.{Seat}
+use Rattle.rayon_machine_runs.specs.World.{Seat}
 use Rattle.rayon_machine_parts.specs.declared.parts.Seat.{Seat as StoredSeat}
 use Rattle.rayon_machine_numbers.specs.Numbers.{act_list, seat_queued, with_flags}
 use Rattle.rayon_machine_parts.specs.State.{DequeFits, ListFits, blank_seat, seat_in, seat_of}

@@ -1,5 +1,5 @@
 use Rattle.std.proofs.Common.{arith, ap, ◌≡◌, ◌∙◌, ◌+◌, ◌<◌, length}
-use Rattle.rayon_machine_places.specs.Steps.{marked}
+use Rattle.rayon_machine_runs.specs.Steps.{marked}
 use Rattle.rayon_machine_parts.specs.State.{job_at}
 use Rattle.rayon_machine_parts.proofs.Dealt.{job-there, piece-before, piece-more}
 use Rattle.rayon_machine_parts.proofs.writes.write_marks.Goals as goal

@@ -1,5 +1,5 @@
 use Rattle.std.proofs.Common.{ℕ, ◌≡◌, vec_len}
-use Rattle.rayon_machine_places.specs.Steps.{mark_pieces}
+use Rattle.rayon_machine_runs.specs.Steps.{mark_pieces}
 use Rattle.rayon_machine_parts.specs.State.{job_at}
 use Rattle.rayon_machine_parts.proofs.writes.write_marks.Given as goal
 

@@ -1,5 +1,5 @@
 use Rattle.std.proofs.Common.{arith, refl, ◌≡◌, ◌+◌, ◌<◌, length, vec_len}
-use Rattle.rayon_machine_places.specs.Steps.{new_piece}
+use Rattle.rayon_machine_runs.specs.Steps.{new_piece}
 use Rattle.rayon_machine_parts.specs.State.{job_at}
 use Rattle.rayon_machine_parts.proofs.Dealt.{piece-more}
 use Rattle.rayon_machine_parts.proofs.writes.write_pieces.Goals as goal

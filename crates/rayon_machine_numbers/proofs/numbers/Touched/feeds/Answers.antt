@@ -1,6 +1,6 @@
 use Rattle.std.proofs.Common.{rules, ◌≡◌, true}
 use Rattle.std.proofs.lemmas.Result.{IfOk-weaker}
-use Rattle.rayon_machine_places.specs.World.{is_open}
+use Rattle.rayon_machine_runs.specs.World.{is_open}
 use Rattle.rayon_machine_numbers.proofs.numbers.Touched.feeds.Goals as goal
 
 pub returns-in-FifoOut-clause-ok : goal.returns-in-FifoOut-clause-ok

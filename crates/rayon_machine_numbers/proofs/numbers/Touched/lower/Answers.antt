@@ -2,7 +2,7 @@ use Rattle.std.proofs.Common.{◌≡◌, ◌∙◌, ap, true, false}
 use Rattle.std.specs.Prelude.{◌==◌, Bool, Some, if◌then◌else◌}
 use Rattle.std.proofs.lemmas.Bool.{eq-eqb, ne_eqb}
 use Rattle.rayon_machine_places.specs.declared.act.Seen.TheVariants.{Yes, No}
-use Rattle.rayon_machine_places.specs.World.{count_in, lowered, Outcome, Part}
+use Rattle.rayon_machine_runs.specs.World.{count_in, lowered, Outcome, Part}
 use Rattle.rayon_machine_numbers.specs.Numbers.{full}
 use Rattle.rayon_machine_numbers.proofs.numbers.Touched.lower.Goals as goal
 

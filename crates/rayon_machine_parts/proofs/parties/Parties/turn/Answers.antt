@@ -2,7 +2,7 @@ use Rattle.std.proofs.Common.{refl, ◌≡◌, ◌<◌, length, subst}
 use Rattle.std.proofs.lemmas.Option.{slice_get_read}
 use Rattle.std.specs.Prelude.{slice_get, Some}
 use Rattle.rayon_machine_places.specs.declared.place.Party.TheVariants.{Worker, Caller}
-use Rattle.rayon_machine_places.specs.Steps.{after_move}
+use Rattle.rayon_machine_runs.specs.Steps.{after_move}
 use Rattle.rayon_machine_parts.specs.State.{HasRoom, first_stack}
 use Rattle.rayon_machine_parts.proofs.Stored.{some-below, worker-turned, caller-turned}
 use Rattle.rayon_machine_parts.proofs.parties.Parties.turn.Goals as goal

@@ -2,7 +2,7 @@ use Rattle.std.proofs.Common.{◌≡◌, ◌∙◌, sym, refl, ap, false}
 use Rattle.std.specs.Prelude.{◌||◌, Bool}
 use Rattle.std.specs.List.{list_any}
 use Rattle.rayon_machine_places.specs.Places.{holds_scope}
-use Rattle.rayon_machine_places.specs.Steps.{holds_in}
+use Rattle.rayon_machine_runs.specs.Steps.{holds_in}
 use Rattle.rayon_machine_parts.specs.State.{stack_of}
 use Rattle.rayon_machine_parts.proofs.Holding.{holds-turned}
 use Rattle.rayon_machine_parts.proofs.parties.Stack.holds.Goals as goal

@@ -1,7 +1,7 @@
 use Rattle.std.proofs.Common.{◌∙◌, ap, reverse}
 use Rattle.rayon_machine_places.specs.declared.place.Place.{Place}
 use Rattle.rayon_machine_places.specs.Places.{goes_on}
-use Rattle.rayon_machine_places.specs.World.{Stack}
+use Rattle.rayon_machine_runs.specs.World.{Stack}
 use Rattle.rayon_machine_parts.proofs.Stored.{resumed-back}
 use Rattle.rayon_machine_parts.proofs.parties.Stack.resume.Goals as goal
 

@@ -1,5 +1,5 @@
 use Rattle.std.proofs.Common.{◌≡◌, ◌≤◌}
-use Rattle.rayon_machine_places.specs.World.{count_below}
+use Rattle.rayon_machine_runs.specs.World.{count_below}
 use Rattle.rayon_machine_parts.specs.State.{seat_at}
 use Rattle.rayon_machine_parts.proofs.parts.Parts.census.Given as goal
 

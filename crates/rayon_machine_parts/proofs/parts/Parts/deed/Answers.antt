@@ -2,7 +2,7 @@ use Rattle.std.proofs.Common.{refl, ap, true, ◌∙◌, ◌≡◌}
 use Rattle.rayon_machine_parts.specs.declared.spot.Spot.{Spot}
 use Rattle.rayon_machine_parts.specs.declared.deed.Deed.{Deed}
 use Rattle.rayon_machine_places.specs.Places.{own_pool}
-use Rattle.rayon_machine_places.specs.World.{target_pool}
+use Rattle.rayon_machine_places.specs.Targets.{target_pool}
 use Rattle.rayon_machine_numbers.specs.Numbers.{census_counts, is_census}
 use Rattle.rayon_machine_parts.specs.State.{counts_in, shape_of, spot_of, touched_at}
 use Rattle.rayon_machine_parts.proofs.Deeds.{can-deed, is-deed, is-no-deed, is-spot}

@@ -1,6 +1,6 @@
 use Rattle.std.proofs.Common.{◌≡◌, ◌≤◌}
-use Rattle.rayon_machine_places.specs.World.{count_below}
-use Rattle.rayon_machine_places.specs.Readers.{is_done, is_job_that, is_queued, is_running}
+use Rattle.rayon_machine_runs.specs.World.{count_below}
+use Rattle.rayon_machine_runs.specs.Readers.{is_done, is_job_that, is_queued, is_running}
 use Rattle.rayon_machine_parts.specs.State.{job_at}
 use Rattle.rayon_machine_parts.proofs.parts.Parts.totals.Given as goal
 

@@ -1,6 +1,6 @@
 use Rattle.std.proofs.Common.{rules, ◌≡◌, ◌∙◌, Bool, true, ap, sym, ℕ}
 use Rattle.std.specs.Prelude.{Option, if◌then◌else◌}
-use Rattle.rayon_machine_places.specs.World.{Seat}
+use Rattle.rayon_machine_runs.specs.World.{Seat}
 use Rattle.rayon_machine_numbers.specs.Numbers.{act_list, is_listing, seat_listed, seat_pushed, with_flags}
 use Rattle.rayon_machine_parts.specs.State.{seat_of}
 use Rattle.rayon_machine_parts.proofs.parts.Seat.write.Goals as goal

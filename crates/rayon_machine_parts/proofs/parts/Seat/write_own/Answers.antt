@@ -3,7 +3,7 @@ use Rattle.std.specs.Prelude.{Option}
 use Rattle.rayon_machine_places.specs.declared.act.Act.{Act}
 use Rattle.rayon_machine_places.specs.declared.act.Act.TheVariants.{PopOwn, PushOwn, Steal}
 use Rattle.rayon_machine_places.specs.declared.shape.Order.{Order}
-use Rattle.rayon_machine_places.specs.World.{Seat}
+use Rattle.rayon_machine_runs.specs.World.{Seat}
 use Rattle.rayon_machine_numbers.specs.Numbers.{seat_pushed, with_flags}
 use Rattle.rayon_machine_parts.specs.State.{seat_of}
 use Rattle.rayon_machine_parts.proofs.parts.Seat.write_own.Goals as goal

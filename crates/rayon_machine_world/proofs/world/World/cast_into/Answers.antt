@@ -2,9 +2,9 @@ use Rattle.std.proofs.Common.{rules, ◌≡◌, ◌∙◌, true, ap, sym}
 use Rattle.std.specs.Prelude.{Some, slice_get}
 use Rattle.rayon_machine_places.specs.declared.place.Count.TheVariants.{OfScope}
 use Rattle.rayon_machine_places.specs.declared.place.Pieces.{Pieces}
-use Rattle.rayon_machine_places.specs.declared.state.Scope.{Scope}
+use Rattle.rayon_machine_runs.specs.declared.state.Scope.{Scope}
 use Rattle.rayon_machine_places.specs.Places.{is_free}
-use Rattle.rayon_machine_places.specs.Steps.{holds}
+use Rattle.rayon_machine_runs.specs.Steps.{holds}
 use Rattle.rayon_machine_world.specs.Running.{world_of}
 use Rattle.rayon_machine_world.proofs.Made.{made-is}
 use Rattle.rayon_machine_world.proofs.Calling.{cast-into-is}

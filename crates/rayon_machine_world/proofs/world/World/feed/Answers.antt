@@ -1,6 +1,6 @@
 use Rattle.std.proofs.Common.{rules, ◌≡◌, true}
 use Rattle.rayon_machine_places.specs.Places.{is_free}
-use Rattle.rayon_machine_places.specs.Steps.{is_pool}
+use Rattle.rayon_machine_runs.specs.Steps.{is_pool}
 use Rattle.rayon_machine_world.specs.Running.{world_of}
 use Rattle.rayon_machine_world.proofs.Made.{made-is}
 use Rattle.rayon_machine_world.proofs.Calling.{fed-is}

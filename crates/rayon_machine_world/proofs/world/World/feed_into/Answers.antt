@@ -3,9 +3,9 @@ use Rattle.std.specs.Prelude.{Option, Some}
 use Rattle.rayon_machine_places.specs.declared.place.Party.TheVariants.{Worker}
 use Rattle.rayon_machine_places.specs.declared.place.JobKind.{JobKind}
 use Rattle.rayon_machine_places.specs.declared.place.JobKind.TheVariants.{Scoped, TokenOf}
-use Rattle.rayon_machine_places.specs.declared.state.Job.{Job}
+use Rattle.rayon_machine_runs.specs.declared.state.Job.{Job}
 use Rattle.rayon_machine_places.specs.Places.{is_free}
-use Rattle.rayon_machine_places.specs.Steps.{holds, new_job}
+use Rattle.rayon_machine_runs.specs.Steps.{holds, new_job}
 use Rattle.rayon_machine_world.specs.Running.{world_of}
 use Rattle.rayon_machine_world.proofs.Made.{made-is}
 use Rattle.rayon_machine_world.proofs.Calling.{fed-into-is}

@@ -1,9 +1,9 @@
 use Rattle.std.proofs.Common.{rules, ◌≡◌, ◌∙◌, true, false, ap, sym, subst}
 use Rattle.std.specs.Prelude.{Option, Some, slice_get}
-use Rattle.rayon_machine_places.specs.declared.state.Scope.{Scope}
+use Rattle.rayon_machine_runs.specs.declared.state.Scope.{Scope}
 use Rattle.rayon_machine_places.specs.Places.{is_member}
-use Rattle.rayon_machine_places.specs.World.{World}
-use Rattle.rayon_machine_places.specs.Steps.{after_enter, after_enter_fifo, after_into_fifo}
+use Rattle.rayon_machine_runs.specs.World.{World}
+use Rattle.rayon_machine_runs.specs.Steps.{after_enter, after_enter_fifo, after_into_fifo}
 use Rattle.rayon_machine_world.specs.Running.{IsStepOf, after_own_enter, world_of}
 use Rattle.rayon_machine_world.proofs.Calling.{enters-other, enters-own}
 use Rattle.rayon_machine_world.proofs.world.World.fifo_into.Goals as goal

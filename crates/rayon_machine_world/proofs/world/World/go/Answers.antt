@@ -2,10 +2,10 @@ use Rattle.std.proofs.Common.{rules, ◌≡◌, ◌∙◌, ap, subst, sym}
 use Rattle.std.specs.Prelude.{Some, None}
 use Rattle.std.proofs.lemmas.Result.{on_ok_weaker, IfErr-weaker}
 use Rattle.rayon_machine_places.specs.declared.act.Act.{Act}
-use Rattle.rayon_machine_places.specs.declared.error.StepError.TheVariants.{NotEnabled, NoRoom}
-use Rattle.rayon_machine_places.specs.declared.event.Event.TheVariants.{Go}
+use Rattle.rayon_machine_runs.specs.declared.error.StepError.TheVariants.{NotEnabled, NoRoom}
+use Rattle.rayon_machine_runs.specs.declared.event.Event.TheVariants.{Go}
 use Rattle.rayon_machine_places.specs.Places.{next_of}
-use Rattle.rayon_machine_places.specs.Steps.{step}
+use Rattle.rayon_machine_runs.specs.Steps.{step}
 use Rattle.rayon_machine_parts.specs.State.{IsDeed, shape_of}
 use Rattle.rayon_machine_world.specs.Running.{IsPerformed, world_of}
 use Rattle.rayon_machine_world.proofs.Acted.{can-go, cannot-go, went}

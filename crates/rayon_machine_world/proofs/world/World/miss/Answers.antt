@@ -3,7 +3,8 @@ use Rattle.std.specs.Prelude.{Some}
 use Rattle.rayon_machine_places.specs.declared.act.Seen.TheVariants.{Missing}
 use Rattle.rayon_machine_places.specs.declared.place.Party.TheVariants.{Worker}
 use Rattle.rayon_machine_places.specs.Places.{next_of, own_pool, victim_of}
-use Rattle.rayon_machine_places.specs.Steps.{can_miss, has_one, is_newest_first}
+use Rattle.rayon_machine_runs.specs.Steps.{can_miss, has_one}
+use Rattle.rayon_machine_places.specs.Shapes.{is_newest_first}
 use Rattle.rayon_machine_world.specs.Running.{world_of}
 use Rattle.rayon_machine_world.proofs.Made.{made-is}
 use Rattle.rayon_machine_world.proofs.Turning.{missed-none, missed-turn}

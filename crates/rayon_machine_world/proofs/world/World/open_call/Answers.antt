@@ -2,10 +2,10 @@ use Rattle.std.proofs.Common.{rules, refl, ◌≡◌, ◌∙◌, ◌+◌, ap, �
 use Rattle.rayon_machine_places.specs.declared.place.Party.{Party}
 use Rattle.rayon_machine_places.specs.declared.place.Move.TheVariants.{Enter}
 use Rattle.rayon_machine_places.specs.declared.place.Place.TheVariants.{RaiseCount}
-use Rattle.rayon_machine_places.specs.declared.state.Call.{Call}
-use Rattle.rayon_machine_places.specs.declared.state.Job.{Job}
-use Rattle.rayon_machine_places.specs.World.{Stack, World}
-use Rattle.rayon_machine_places.specs.Steps.{put, put_stack, after_move}
+use Rattle.rayon_machine_runs.specs.declared.state.Call.{Call}
+use Rattle.rayon_machine_runs.specs.declared.state.Job.{Job}
+use Rattle.rayon_machine_runs.specs.World.{Stack, World}
+use Rattle.rayon_machine_runs.specs.Steps.{put, put_stack, after_move}
 use Rattle.rayon_machine_parts.specs.State.{call_at, job_at, shape_of, stack_in}
 use Rattle.rayon_machine_world.specs.Running.{after_open_call, world_of}
 use Rattle.rayon_machine_world.proofs.Acted.{world-path}

@@ -2,9 +2,9 @@ use Rattle.std.proofs.Common.{rules, refl, ◌≡◌, ◌∙◌, ◌+◌, ap, �
 use Rattle.rayon_machine_places.specs.declared.place.Party.{Party}
 use Rattle.rayon_machine_places.specs.declared.place.Move.TheVariants.{Enter}
 use Rattle.rayon_machine_places.specs.declared.place.Place.TheVariants.{RaiseForAll}
-use Rattle.rayon_machine_places.specs.declared.state.Job.{Job}
-use Rattle.rayon_machine_places.specs.World.{Stack, World}
-use Rattle.rayon_machine_places.specs.Steps.{after_move, new_piece, put_pieces, put_stack}
+use Rattle.rayon_machine_runs.specs.declared.state.Job.{Job}
+use Rattle.rayon_machine_runs.specs.World.{Stack, World}
+use Rattle.rayon_machine_runs.specs.Steps.{after_move, new_piece, put_pieces, put_stack}
 use Rattle.rayon_machine_parts.specs.State.{job_at, shape_of, stack_in}
 use Rattle.rayon_machine_world.specs.Running.{after_open_cast, world_of}
 use Rattle.rayon_machine_world.proofs.Acted.{world-path}

@@ -1,9 +1,9 @@
 use Rattle.std.proofs.Common.{suc, ◌+◌, ◌≡◌, None, take, sym, subst, arith}
-use Rattle.rayon_machine_places.specs.World.{World}
-use Rattle.rayon_machine_places.specs.Runs.{IsRun}
-use Rattle.rayon_machine_places.specs.Steps.{step}
+use Rattle.rayon_machine_runs.specs.World.{World}
+use Rattle.rayon_machine_runs.specs.Runs.{IsRun}
+use Rattle.rayon_machine_runs.specs.Steps.{step}
 use Rattle.rayon_machine_world.specs.Running.{world_of}
-use Rattle.rayon_machine_places.specs.declared.event.Event.TheVariants.{Go}
+use Rattle.rayon_machine_runs.specs.declared.event.Event.TheVariants.{Go}
 use Rattle.rayon_machine_places.specs.declared.place.Party.TheVariants.{Worker}
 use Rattle.rayon_machine_world.proofs.Running.{run-next, run-all, holds-there}
 use Rattle.rayon_machine_world.proofs.world.World.replay.Goals as goal

@@ -1,5 +1,5 @@
 use Rattle.std.proofs.Common.{take}
-use Rattle.rayon_machine_places.specs.Runs.{IsRun}
+use Rattle.rayon_machine_runs.specs.Runs.{IsRun}
 use Rattle.rayon_machine_world.specs.Running.{world_of}
 use Rattle.rayon_machine_world.proofs.world.World.replay.Given as goal
 

@@ -1,7 +1,7 @@
 use Rattle.std.proofs.Common.{◌≡◌, ◌∙◌, ap, sym, subst}
 use Rattle.std.specs.Prelude.{Option, Some, slice_get}
-use Rattle.rayon_machine_places.specs.declared.state.Scope.{Scope}
-use Rattle.rayon_machine_places.specs.Steps.{after_enter}
+use Rattle.rayon_machine_runs.specs.declared.state.Scope.{Scope}
+use Rattle.rayon_machine_runs.specs.Steps.{after_enter}
 use Rattle.rayon_machine_world.specs.Running.{IsStepOf, world_of}
 use Rattle.rayon_machine_world.proofs.world.World.spawn_into.Goals as goal
 

@@ -1,0 +1,9 @@
+pub mod World
+pub mod Steps
+pub mod Runs
+pub mod Readers
+pub mod Starts
+pub use Rattle.rayon_machine_places.specs.Places
+pub use Rattle.rayon_machine_places.specs.Targets
+pub use Rattle.rayon_machine_places.specs.Sleepers
+pub use Rattle.rayon_machine_places.specs.Shapes

@@ -1,9 +1,16 @@
 //! A lock that is held from one act to the next.
+ghost use Rattle.std.specs.Sync.Mutex.{mutex_guard_value};
+ghost use Rattle.std.specs.Fn.{FnOnceReturnsAtMut};
 ghost use Rattle.std.specs.Prelude.{◌≡◌, true, None, Some, is_some, not, IfErr, MatchResult};
 
+use crossbeam_utils::Backoff;
 use std::marker::Model;
 use std::mem;
-use std::sync::{Condvar, Mutex, Wait};
+use std::sync::{Condvar, Mutex, MutexGuard, Wait};
+
+// How often a thread tries to hold a lock before it sleeps until the lock is left. Who holds it leaves it after a few
+// steps as a rule. Each pause is twice as long as the one before, all together about as long as to sleep and be woken.
+const TRIES: u32 = 7;
 
 /// What stands under a held lock: the value, but while somebody holds it. To a contract it is that value, if it is there.
 #[derive(Drop)]
@@ -76,18 +83,44 @@ impl<T: Drop> HeldLock<T> {
         }
     }
 
-    /// Holds the lock once nobody else does, and gives its value. A thread that waits sleeps.
+    /// Holds the lock once nobody else does, and gives its value. A thread that has tried for a few microseconds sleeps.
     pub fn hold<R: Wait>(&self, rt: &R) -> T {
-        let mut state = self
-            .left
-            .wait_while(rt, self.state.lock(rt), |state| state.is_held());
-        match state.take() {
+        match self.lock_left(rt).take() {
             Some(value) => value,
             None => unreachable!(),
         }
     }
 
-    /// Leaves the lock with this value, and wakes one that waits for it. Where nobody holds the lock the value comes back,
+    /// Does this to the value once nobody holds the lock, and answers what it answers: nobody else has the value
+    /// meanwhile. It is for one step, as `hold` is for several. A thread waits as there.
+    pub fn with<R: Wait, O, F: FnOnce(&mut T) -> O>(&self, rt: &R, step: F) -> O
+        requires { F.IsAlwaysCallable step }
+        ensures { (before : T) × (after : T) × FnOnceReturnsAtMut F.FnOnce step before result after }
+    {
+        match &mut self.lock_left(rt).value {
+            Some(value) => step(value),
+            None => unreachable!(),
+        }
+    }
+
+    // The state, once nobody holds the lock.
+    fn lock_left<R: Wait>(&self, rt: &R) -> MutexGuard<'_, HeldLockState<T>>
+        ensures { is_some (mutex_guard_value result) ≡ true }
+    {
+        let backoff = Backoff::new();
+        for _ in 0..TRIES {
+            let state = self.state.lock(rt);
+            if !state.is_held() {
+                return state;
+            }
+            drop(state);
+            backoff.spin();
+        }
+        self.left
+            .wait_while(rt, self.state.lock(rt), |state| state.is_held())
+    }
+
+    /// Leaves the lock with this value, and wakes all that wait for it. Where nobody holds the lock the value comes back,
     /// and nothing is changed.
     pub fn leave<R: Wait>(&self, rt: &R, value: T) -> Result<(), T>
         ensures { IfErr result (λ back. back ≡ value) }
@@ -95,7 +128,7 @@ impl<T: Drop> HeldLock<T> {
         let mut state = self.state.lock(rt);
         state.put_back(value)?;
         drop(state);
-        self.left.notify_one();
+        self.left.notify_all();
         Ok(())
     }
 }

@@ -10,7 +10,7 @@ use Rattle.rayon_books.specs.declared.slot.Slot.TheVariants.{Open, Filled, Fault
 use Rattle.rayon_books.specs.declared.slot.First.{First}
 
 -- an answer that is no output is a fault
-is_err_of : {O F : Type 0} (a : Result O F) → is_ok a ≡ false → is_err a ≡ true
+pub is_err_of : {O F : Type 0} (a : Result O F) → is_ok a ≡ false → is_err a ≡ true
 is_err_of (Ok o) e = cc
 is_err_of (Err f) e = refl
 

@@ -1,3 +1,4 @@
 pub mod Books
 pub mod Outcomes
+pub mod Pieces
 pub mod Receipts

@@ -1,8 +1,9 @@
 //! What a scope keeps of its jobs: the book of their results by number, and the receipts that its body holds of what it
-//! spawned, each met by the output at its number.
+//! spawned, each met by the output at its number. And what a broadcast keeps of its pieces: such a book, by index.
 #![tactic(auto)]
 
 mod outcome;
+mod piece_runs;
 mod receipt;
 mod scope_book;
 mod slot;

@@ -11,16 +11,17 @@ use std::alloc::Global;
 use std::marker::Model;
 use std::mem;
 
-/// The results of a scope's jobs, by number, and whose fault came first.
+/// The results of a scope's jobs, by number, and whose fault came first. Or those of a broadcast's pieces, by index, and
+/// the fault of the lowest index that has one (`of_pieces`).
 ///
 /// Only the opening of slots takes memory: it also makes the room for the outputs. To a contract it is a list of slots,
 /// and the one whose fault was the first.
 #[derive(Drop)]
 pub struct ScopeBook<J: JobKind> {
-    alloc: Global,
-    slots: Vec<Slot<Done<J>>>,
-    first: Option<First<Done<J>>>,
-    ready: Vec<Done<J>>,
+    pub(crate) alloc: Global,
+    pub(crate) slots: Vec<Slot<Done<J>>>,
+    pub(crate) first: Option<First<Done<J>>>,
+    pub(crate) ready: Vec<Done<J>>,
 }
 
 impl<J: JobKind> Model for ScopeBook<J> {

@@ -1,4 +1,8 @@
 //! What a scope's book has at a job's number, whose fault it keeps, and why it gives no outputs.
+ghost use Rattle.rayon_books.specs.Outcomes.{ending_without};
+ghost use Rattle.std.specs.Prelude.{◌≡◌};
+
+use rayon_machine_places::place::Ending;
 
 /// What a scope's book has at the number of a job.
 #[derive(Drop)]
@@ -31,4 +35,16 @@ pub enum NoOutputs<F> {
     Missing,
     /// There was no fault, and a result is not the one that was to be there.
     Foreign,
+}
+
+impl<F> NoOutputs<F> {
+    /// How the scope ended: with a fault where the body's or a job's was the first.
+    pub fn ending(&self) -> Ending
+        ensures { result ≡ ending_without self.now }
+    {
+        match self {
+            NoOutputs::Body | NoOutputs::Fault(_) => Ending::Fault,
+            NoOutputs::Missing | NoOutputs::Foreign => Ending::Fine,
+        }
+    }
 }

@@ -3,16 +3,16 @@
 #![tactic(auto)]
 
 mod call;
+mod call_core;
 mod call_latch;
 mod names;
-mod scope;
 mod task;
 mod ticket;
 mod work;
 
 pub use call::Call;
+pub use call_core::CallCore;
 pub use names::{Names, law_names, law_rows, row_of_names};
-pub use scope::ScopeCore;
 pub use task::{
     Task, pieces_of, single_parts, task_of_job, task_of_pair, task_of_piece, task_parts, token_of,
 };

@@ -109,9 +109,9 @@ impl<J: JobKind> Task<J> {
         self.ticket.scope_call() == scope
     }
 
-    /// What the end of the run sets going: of a scope's job that its result is stored in the scope's book, of a
-    /// detached job that its unit of the terminate count is given back, else that its result is stored for the call
-    /// that waits for it.
+    /// What the end of the run sets going: of a scope's job that its result is stored in the scope's book, of a piece
+    /// of a broadcast that waits that its result is stored in the broadcast's, of a detached job that its unit of the
+    /// terminate count is given back, else that its result is stored for the call that waits for it.
     #[inline(always)]
     pub fn kind(&self) -> Kind
         ensures { result ≡ kind_in self.now.ticket }
@@ -120,6 +120,12 @@ impl<J: JobKind> Task<J> {
         if let Some(scope) = self.ticket.scope() {
             return Kind::Scoped {
                 call: scope.call(),
+                owner,
+            };
+        }
+        if let Some(core) = self.ticket.broadcast() {
+            return Kind::PieceOf {
+                call: core.call(),
                 owner,
             };
         }

@@ -1,0 +1,5 @@
+pub mod AtHand
+pub mod Casts
+pub mod Marks
+pub mod Pools
+pub mod Seats

@@ -15,7 +15,8 @@ use Rattle.rayon_machine_places.specs.Places.{call_all, ends_count, is_rest}
 use Rattle.rayon_drive.specs.Paths.{place_of}
 use Rattle.rayon_drive.specs.Traces.{Adds}
 use Rattle.rayon_drive.proofs.Paths.{driven_from}
-use Rattle.rayon_performers.specs.Casts.{Casts, HandsBack, casting}
+use Rattle.rayon_performers.specs.Casts.{Casts, HandsBack}
+use Rattle.rayon_shared.specs.Casts.{casting}
 use Rattle.rayon_performers.specs.Hands.{Hands, Does, Same}
 use Rattle.rayon_performers.proofs.Stretches.{So, so_far, by_act, and_then, of_worker}
 

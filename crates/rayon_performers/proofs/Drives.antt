@@ -17,17 +17,25 @@ use Rattle.rayon_drive.specs.declared.trace.Log.{Log}
 use Rattle.rayon_drive.specs.Paths.{goes}
 use Rattle.rayon_drive.proofs.Paths.{driven_keeps}
 use Rattle.rayon_atomics.specs.declared.views.Teller.{Teller}
+use Rattle.rayon_machine_places.specs.declared.place.Count.{Count}
 use Rattle.rayon_machine_places.specs.declared.place.Count.TheVariants.{OfPool, OfScope, OfCast}
-use Rattle.rayon_performers.specs.Hands.{Hands, Does, Needs, Sees, Told, after, is_yes}
+use Rattle.rayon_performers.specs.Hands.{Hands, Does, Needs, Sees, Told, after, counted}
+use Rattle.rayon_shared.specs.AtHand.{is_yes}
 use Rattle.rayon_performers.specs.Keeps.{at_stays, does_at, ended, going}
-use Rattle.rayon_performers.specs.Marks.{GivesUnit, Marks, Tally}
-use Rattle.rayon_performers.specs.Seats.{Resting}
+use Rattle.rayon_shared.specs.Marks.{GivesUnit, Marks, Tally}
+use Rattle.rayon_shared.specs.Seats.{Resting}
 use Rattle.rayon_performers.specs.Stands.{Anyhow, At, Ended, Hand, Last, Next, hand}
 use Rattle.rayon_performers.specs.Waits.{SameSeat}
 use Rattle.rayon_performers.proofs.Stretches.{So}
 
 module _ {X G O F : Type 0} where
-  -- no act changes whose bench it is
+  -- no step of a count changes whose bench it is
+  counted_seat : (k : Count) (s t : Hands X G O F) → SameSeat s (counted k t s)
+  counted_seat (OfPool p) s t = (refl, refl)
+  counted_seat (OfScope c o) s t = (refl, refl)
+  counted_seat (OfCast c o) s t = (refl, refl)
+
+  -- and no act does
   after_seat : (a : Act) (x : Seen) (s t : Hands X G O F) → SameSeat s (after a x t s)
   after_seat (acts.Probe l) x s t = (refl, refl)
   after_seat (acts.Raise (OfPool p) n) x s t = (refl, refl)
@@ -36,6 +44,8 @@ module _ {X G O F : Type 0} where
   after_seat (acts.Lower (OfPool p) b) x s t = (refl, refl)
   after_seat (acts.Lower (OfScope c o) b) x s t = (refl, refl)
   after_seat (acts.Lower (OfCast c o) b) x s t = (refl, refl)
+  after_seat (acts.RaiseAll c) x s t = counted_seat c.count s t
+  after_seat (acts.LowerAll c) x s t = counted_seat c.count s t
   after_seat _ x s t = (refl, refl)
 
   pub does_stays : (a : Act) (x : Seen) (s t : Hands X G O F) → Does a x s t → SameSeat s t

@@ -17,7 +17,8 @@ use Rattle.rayon_drive.specs.Traces.{Adds}
 use Rattle.rayon_tasks.specs.Tasks.{WorkOf, OneJob, OnePiece, TwoSides, NoJob, HasJob, taken_by}
 use Rattle.rayon_tasks.specs.Tickets.{TicketOf}
 use Rattle.rayon_performers.specs.Fifos.{feeding}
-use Rattle.rayon_performers.specs.Hands.{Hands, Does, Looks, Same, answer}
+use Rattle.rayon_performers.specs.Hands.{Hands, Does, Looks, Same}
+use Rattle.rayon_shared.specs.AtHand.{answer}
 use Rattle.rayon_performers.specs.Scopes.{into}
 use Rattle.rayon_performers.proofs.Stretches.{So, so_far, by_act}
 

@@ -19,7 +19,8 @@ use Rattle.rayon_drive.specs.Paths.{goes}
 use Rattle.rayon_drive.specs.Traces.{Adds}
 use Rattle.rayon_queues.specs.Deques.{Deque, DequeId, Leaves, Popped, SameDeque, Thief, Unmoved, Visitor}
 use Rattle.rayon_tasks.specs.Tasks.{TaskOf, taken_in}
-use Rattle.rayon_performers.specs.Hands.{Hands, HasTask, Needs, Does, Same, Looks, PoppedFrom, StolenBy, TakenBy, answer}
+use Rattle.rayon_performers.specs.Hands.{Hands, HasTask, Needs, Does, Same, Looks, PoppedFrom, StolenBy, TakenBy}
+use Rattle.rayon_shared.specs.AtHand.{answer}
 use Rattle.rayon_performers.specs.Finds.{Found, Kept}
 use Rattle.rayon_performers.proofs.Stretches.{So, so_far, by_act}
 

@@ -6,7 +6,8 @@ use Rattle.rayon_machine_places.specs.declared.act.Seen.{Seen}
 use Rattle.rayon_machine_places.specs.declared.act.Seen.TheVariants.{Done, Refused}
 use Rattle.rayon_atomics.specs.declared.views.Guard.{Guard}
 use Rattle.rayon_performers.specs.Sights.{Guards, Finds, Turns, Wakes, Watches}
-use Rattle.rayon_performers.specs.Hands.{Hands, Does, answer}
+use Rattle.rayon_performers.specs.Hands.{Hands, Does}
+use Rattle.rayon_shared.specs.AtHand.{answer}
 use Rattle.rayon_performers.specs.Waits.{waiting_on}
 
 module _ {X G O F : Type 0} (l : Latch) (s t u : Hands X G O F) (e : t ≡ record s { guards = t.guards }) where

@@ -1,4 +1,5 @@
 pub mod Begins
+pub mod Broadcasts
 pub mod Casts
 pub mod Drives
 pub mod Fifos
@@ -6,6 +7,7 @@ pub mod Finds
 pub mod Letters
 pub mod Offers
 pub mod Recounts
+pub mod ScopeCasts
 pub mod Scopes
 pub mod Spawns
 pub mod Stretches

@@ -21,7 +21,8 @@ use Rattle.rayon_machine_places.specs.declared.shape.PoolShape.{PoolShape}
 use Rattle.rayon_machine_places.specs.Places.{next_of, walk, finish, undo}
 use Rattle.rayon_drive.specs.Traces.{Adds}
 use Rattle.rayon_performers.specs.Calls.{own_call, own_join}
-use Rattle.rayon_performers.specs.Hands.{Hands, Does, Same, Looks, answer, kind_of}
+use Rattle.rayon_performers.specs.Hands.{Hands, Does, Same, Looks, kind_of}
+use Rattle.rayon_shared.specs.AtHand.{answer}
 use Rattle.rayon_performers.proofs.Stretches.{So, so_far, by_act}
 
 module _ {X G O F : Type 0} (h : PoolShape) (i n : ℕ) (s t : Hands X G O F) where

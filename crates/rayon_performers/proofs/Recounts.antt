@@ -8,9 +8,10 @@ use Rattle.rayon_machine_places.specs.declared.act.Seen.{Seen}
 use Rattle.rayon_machine_places.specs.declared.act.Seen.TheVariants.{Done, Refused, Yes, No}
 use Rattle.rayon_atomics.specs.declared.views.Guard.{Guard}
 use Rattle.rayon_atomics.specs.declared.views.Teller.{Teller}
-use Rattle.rayon_performers.specs.Hands.{Hands, Does, answer}
+use Rattle.rayon_performers.specs.Hands.{Hands, Does}
+use Rattle.rayon_shared.specs.AtHand.{answer}
 use Rattle.rayon_machine_places.specs.declared.place.Count.TheVariants.{OfPool}
-use Rattle.rayon_performers.specs.Marks.{GivesUnit, KeepsUnits, MissesUnit, NoLatch, SetBy, TakesUnit}
+use Rattle.rayon_shared.specs.Marks.{GivesUnit, KeepsUnits, MissesUnit, NoLatch, SetBy, TakesUnit}
 
 module _ {X G O F : Type 0} (s t u : Hands X G O F) (f : u ≡ record t { trace = u.trace }) where
   -- the seats are the same after the entry

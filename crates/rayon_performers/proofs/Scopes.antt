@@ -17,14 +17,15 @@ use Rattle.rayon_machine_places.specs.declared.place.Then.TheVariants.{Await, Re
 use Rattle.rayon_machine_places.specs.declared.shape.PoolShape.{PoolShape}
 use Rattle.rayon_machine_places.specs.Places.{fresh, set_call, undo, walk}
 use Rattle.rayon_drive.specs.Traces.{Adds}
-use Rattle.rayon_tasks.specs.Tickets.{ScopeOf, TicketOf}
+use Rattle.rayon_tasks.specs.Tickets.{CoreOf, TicketOf, call_alone}
 use Rattle.rayon_performers.specs.Calls.{own_call}
-use Rattle.rayon_performers.specs.Hands.{Hands, Does, HasTicket, Looks, Same, answer}
-use Rattle.rayon_performers.specs.Marks.{IsScope, scope_in}
+use Rattle.rayon_performers.specs.Hands.{Hands, Does, Looks, Same}
+use Rattle.rayon_shared.specs.AtHand.{HasTicket, answer}
+use Rattle.rayon_shared.specs.Marks.{IsScope, scope_in}
 use Rattle.rayon_performers.specs.Keeps.{told_at}
 use Rattle.rayon_performers.specs.Paths.{WorkerGoes}
 use Rattle.rayon_performers.specs.Scopes.{answering, entering}
-use Rattle.rayon_performers.specs.Seats.{Resting}
+use Rattle.rayon_shared.specs.Seats.{Resting}
 use Rattle.rayon_performers.specs.Stands.{Anyhow, At}
 use Rattle.rayon_performers.proofs.Waits.{EndsWait}
 use Rattle.rayon_performers.proofs.Stretches.{So, so_far, by_act}
@@ -34,7 +35,7 @@ pub scope_ticket : (k : Option TicketOf) (c : ℕ) → IsScope (scope_in k) c �
 scope_ticket None c e = absurd e
 scope_ticket (Some u) c e = by u.scope e
   where
-    by : (z : Option ScopeOf) → IsScope z c → elim z [ None ↦ u.number | Some s ↦ s.call ] ≡ c
+    by : (z : Option CoreOf) → IsScope z c → elim z [ None ↦ call_alone u | Some s ↦ s.call ] ≡ c
     by None e = absurd e
     by (Some s) e = e
 

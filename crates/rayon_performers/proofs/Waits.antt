@@ -20,9 +20,10 @@ use Rattle.rayon_machine_places.specs.Places.{fresh, latch_of, next_of}
 use Rattle.rayon_drive.specs.Traces.{Adds}
 use Rattle.rayon_performers.specs.declared.reclaimed.Reclaimed.{Reclaimed}
 use Rattle.rayon_performers.specs.declared.reclaimed.Reclaimed.TheVariants.{Own, Other, Answered}
-use Rattle.rayon_performers.specs.Hands.{Does, Hands, HasTicket, answer}
+use Rattle.rayon_performers.specs.Hands.{Does, Hands}
+use Rattle.rayon_shared.specs.AtHand.{HasTicket, answer}
 use Rattle.rayon_performers.specs.Keeps.{does_at}
-use Rattle.rayon_performers.specs.Seats.{Resting}
+use Rattle.rayon_shared.specs.Seats.{Resting}
 use Rattle.rayon_performers.specs.Stands.{Anyhow, At, Hand, Joins, Left, call_to, hand}
 use Rattle.rayon_performers.specs.Waits.{FoundSo, Rejoined, Waited, rejoins, units_after}
 use Rattle.rayon_performers.proofs.Stretches.{So, by_act, so_far}

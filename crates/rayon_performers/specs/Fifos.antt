@@ -26,7 +26,7 @@ token_with u = record { work = NoJob; injected = false; ticket = u }
 
 -- the ticket of a token of this name, which stands for a job of this party's FIFO list of detached jobs
 abbrev pub list_ticket : Party → ℕ → TicketOf
-list_ticket q k = record { owner = q; number = k; detached = true; scope = None; slot = own_index q }
+list_ticket q k = record { owner = q; number = k; detached = true; scope = None; broadcast = None; slot = own_index q }
 
 -- the token of this name, which stands for a job of this party's FIFO list of detached jobs
 abbrev pub token_task : {X : Type 0} → Party → ℕ → TaskOf X

@@ -31,9 +31,10 @@ use Rattle.rayon_drive.specs.Moves.{stays_at}
 use Rattle.rayon_drive.specs.Paths.{goes, place_of}
 use Rattle.rayon_atomics.specs.declared.views.Watch.{Watch}
 use Rattle.rayon_sleep.specs.Berths.{Rests, Searches, Sleeps}
-use Rattle.rayon_performers.specs.Hands.{Hands, HasTask, HasTicket, Needs, Does, Sees, after}
+use Rattle.rayon_performers.specs.Hands.{Hands, HasTask, Needs, Does, Sees, after}
+use Rattle.rayon_shared.specs.AtHand.{HasTicket}
 use Rattle.rayon_performers.specs.Seating.{begins, ends, held, loads, never, stays, stepped, wakes}
-use Rattle.rayon_performers.specs.Seats.{AddsInactive, Announces, Loads, Relocks, Resting, Searching, SubsInactive, SubsSleeping, Tries}
+use Rattle.rayon_shared.specs.Seats.{AddsInactive, Announces, Loads, Relocks, Resting, Searching, SubsInactive, SubsSleeping, Tries}
 use Rattle.rayon_performers.specs.Sights.{seen_set}
 use Rattle.rayon_performers.specs.Stands.{Anyhow, At, Ended, Ends, Going, Hand, IsWorker, Joins, Left, Next, Runs, SawSet, Waits, Where, call_to, hand}
 

@@ -1,16 +1,14 @@
 pub mod Begins
+pub mod Broadcasts
 pub mod Calls
 pub mod Casts
 pub mod Fifos
 pub mod Finds
 pub mod Hands
 pub mod Keeps
-pub mod Marks
 pub mod Paths
-pub mod Pools
 pub mod Scopes
 pub mod Seating
-pub mod Seats
 pub mod Sights
 pub mod Spawns
 pub mod Stands

@@ -5,7 +5,7 @@ use Rattle.rayon_machine_places.specs.declared.place.Entry.{Entry}
 use Rattle.rayon_machine_places.specs.declared.place.Feeding.{Feeding}
 use Rattle.rayon_machine_places.specs.declared.place.Move.TheVariants.{Back, HandBack, Stay}
 use Rattle.rayon_machine_places.specs.declared.place.Party.{Party}
-use Rattle.rayon_machine_places.specs.declared.place.Place.TheVariants.{RaiseCount}
+use Rattle.rayon_machine_places.specs.declared.place.Place.TheVariants.{RaiseCount, RaiseForAll}
 use Rattle.rayon_machine_places.specs.declared.place.Plan.{Plan}
 use Rattle.rayon_machine_places.specs.declared.place.Plan.TheVariants.{Enter, Feed}
 use Rattle.rayon_machine_places.specs.declared.shape.PoolShape.{PoolShape}
@@ -13,6 +13,8 @@ use Rattle.rayon_drive.specs.declared.trace.Log.{Log}
 use Rattle.rayon_drive.specs.Paths.{Traced}
 use Rattle.rayon_tasks.specs.Tasks.{OneJob, TaskOf}
 use Rattle.rayon_tasks.specs.Tickets.{TicketOf}
+use Rattle.rayon_performers.specs.Casts.{CastsInto, HandsBack}
+use Rattle.rayon_shared.specs.Casts.{cast_into}
 use Rattle.rayon_performers.specs.Fifos.{token_with}
 use Rattle.rayon_performers.specs.Hands.{Hands}
 use Rattle.rayon_performers.specs.Paths.{WorkerGoes}
@@ -65,3 +67,11 @@ module _ {X G O F : Type 0} where
   -- such a spawn was refused: before its Raise, when nothing was done, or from there to where it hands its job back
   abbrev pub EntersNoList : Option TicketOf → Entry → ℕ → Hands X G O F → Hands X G O F → Type 0
   EntersNoList r e k s t = (t ≡ s) ⊎ WorkerGoes (Stay (RaiseCount (Feed (into e k)))) (answering r s) (answering r t) (HandBack (Feed (into e k)))
+
+  -- a worker broadcast into the scope, to so many workers, and the pieces have numbers of its book, of which this is the first
+  abbrev pub EntersForAll : Option TicketOf → Entry → ℕ → ℕ → Hands X G O F → Hands X G O F → Type 0
+  EntersForAll r e w n s t = CastsInto (cast_into e w) n (answering r s) (answering r t)
+
+  -- such a broadcast was refused: before its Raise, when nothing was done, or from there to where its pieces are handed back
+  abbrev pub EntersForNone : Option TicketOf → Entry → ℕ → Hands X G O F → Hands X G O F → Type 0
+  EntersForNone r e w s t = (t ≡ s) ⊎ HandsBack (Stay (RaiseForAll (cast_into e w))) (cast_into e w) (answering r s) (answering r t)

@@ -5,7 +5,7 @@ use Rattle.rayon_machine_places.specs.declared.act.Seen.TheVariants.{Wakes, Word
 use Rattle.rayon_atomics.specs.declared.views.Watch.{Watch}
 use Rattle.rayon_atomics.specs.Counted.{Stays}
 use Rattle.rayon_sleep.specs.Berths.{Rests, Searches, Sleeps}
-use Rattle.rayon_performers.specs.Seats.{Has, Steps, AddsInactive, SubsInactive, Loads, SubsSleeping, Relocks}
+use Rattle.rayon_shared.specs.Seats.{Has, Steps, AddsInactive, SubsInactive, Loads, SubsSleeping, Relocks}
 
 -- what a step makes of the units
 pub stepped : (R : Watch → Watch → Type 0) (C D : Watch → Type 0) (c e : Option Watch) → ((v w : Watch) → R v w → C v → D w) → Has C c → Steps R c e → Has D e

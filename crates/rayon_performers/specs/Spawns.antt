@@ -18,8 +18,9 @@ use Rattle.rayon_drive.specs.declared.trace.Log.{Log}
 use Rattle.rayon_drive.specs.Paths.{Traced}
 use Rattle.rayon_tasks.specs.Tasks.{OneJob, TaskOf}
 use Rattle.rayon_tasks.specs.Tickets.{unscoped}
-use Rattle.rayon_performers.specs.Hands.{Hands, HasResult, HasTicket}
-use Rattle.rayon_performers.specs.Marks.{GivesUnit, IsScope, Tally, scope_in}
+use Rattle.rayon_performers.specs.Hands.{Hands}
+use Rattle.rayon_shared.specs.AtHand.{HasResult, HasTicket}
+use Rattle.rayon_shared.specs.Marks.{GivesUnit, IsBroadcast, IsScope, Tally, broadcast_in, scope_in}
 use Rattle.rayon_performers.specs.Paths.{WorkerGoes}
 
 -- the acts of a spawn of the job of this name, from its Raise to its end
@@ -43,10 +44,11 @@ closing (BodyOf c o) t e = None
 closing (WholeOf c o) t e = None
 closing (TokenOf i b) t e = None
 
--- the seat by which the party stepped on a scope's count last, after the end of such a run: another after that of a scope's
--- job alone
+-- the seat by which the party stepped on the count of a scope or a broadcast last, after the end of such a run: another after
+-- that of a scope's job, or of a piece of a broadcast that waits
 abbrev pub tally_after : JobKind → Option Tally → Option Tally → Option Tally
 tally_after (Scoped c o) old new = new
+tally_after (PieceOf c o) old new = new
 tally_after _ old new = old
 
 -- what the end of such a run leaves with the seat of the terminate count: a detached job's unit is given back, and no other
@@ -69,12 +71,13 @@ module _ {X G O F : Type 0} where
   abbrev pub SpawnsNone : ℕ → Hands X G O F → Hands X G O F → Type 0
   SpawnsNone n s t = (t ≡ s) ⊎ WorkerGoes (Stay (RaiseCount (Detach 0 n))) (with_units 0 s) (with_units 0 t) (HandBack (Detach 0 n))
 
-  -- what the end of such a run asks: the ticket to answer and the result, where a call or a scope waits for the job. No
-  -- worker runs a job of the other kinds yet
+  -- what the end of such a run asks: the ticket to answer and the result, where a call, a scope or a broadcast waits for the
+  -- job. The other kinds have no run
   abbrev pub CanClose : JobKind → Ending → Hands X G O F → Type 0
   CanClose (Detached p) e s = p ≡ 0
   CanClose (Stored c o) e s = HasTicket s.reply (Some c) × HasResult s.done (Some e)
   CanClose (Scoped c o) e s = IsScope (scope_in s.reply) c × HasResult s.done (Some e)
+  CanClose (PieceOf c o) e s = IsBroadcast (broadcast_in s.reply) c × HasResult s.done (Some e)
   CanClose Direct e s = Unit {0}
   CanClose _ e s = ⊥
 
@@ -93,4 +96,5 @@ module _ {G O F : Type 0} where
   abbrev pub done_after : JobKind → Option (Run G O F) → Option (Run G O F)
   done_after (Stored c o) r = None
   done_after (Scoped c o) r = None
+  done_after (PieceOf c o) r = None
   done_after _ r = r

@@ -25,10 +25,11 @@ use Rattle.rayon_tasks.specs.Tasks.{TaskOf}
 use Rattle.rayon_tasks.specs.Tickets.{TicketOf}
 use Rattle.rayon_jobs.specs.Within.{Run}
 use Rattle.rayon_books.specs.declared.slot.NoOutputs.{NoOutputs}
-use Rattle.rayon_performers.specs.Marks.{Tally}
+use Rattle.rayon_shared.specs.Marks.{Tally}
 use Rattle.rayon_performers.specs.Sights.{Guards, SeenSet}
-use Rattle.rayon_performers.specs.Seats.{Resting, Searching, Sleeping}
-use Rattle.rayon_performers.specs.Hands.{Hands, HasTask, HasTicket, Needs, call_latch}
+use Rattle.rayon_shared.specs.Seats.{Resting, Searching, Sleeping}
+use Rattle.rayon_performers.specs.Hands.{Hands, HasTask, Needs}
+use Rattle.rayon_shared.specs.AtHand.{HasTicket, call_latch}
 
 -- what a worker has at hand, but the seats by which it sets latches and counts, and the trace
 pub record Hand (X G O F : Type 0) : Type 0 where

@@ -14,7 +14,8 @@ use Rattle.rayon_atomics.specs.declared.views.Guard.{Guard}
 use Rattle.rayon_machine_places.specs.declared.place.Taken.TheVariants.{Plain}
 use Rattle.rayon_performers.specs.declared.reclaimed.Reclaimed.{Reclaimed}
 use Rattle.rayon_performers.specs.declared.reclaimed.Reclaimed.TheVariants.{Own, Other, Answered}
-use Rattle.rayon_performers.specs.Hands.{Hands, HasTask, HasTicket}
+use Rattle.rayon_performers.specs.Hands.{Hands, HasTask}
+use Rattle.rayon_shared.specs.AtHand.{HasTicket}
 
 -- a task that was in a queue begins
 abbrev pub IsTaken : Place → Type 0

@@ -6,21 +6,23 @@ ghost use Rattle.rayon_machine_places.specs.declared.act.Seen.TheVariants as saw
 ghost use Rattle.rayon_machine_places.specs.declared.place.Count.TheVariants.{OfPool};
 ghost use Rattle.rayon_machine_places.specs.declared.place.Party.TheVariants.{Worker};
 ghost use Rattle.rayon_atomics.specs.Latches.{guard};
-ghost use Rattle.rayon_performers.specs.Hands.{Does, HasTicket, Looks, Needs, Told, answer, call_latch};
+ghost use Rattle.rayon_performers.specs.Hands.{Does, Looks, Needs, Told};
+ghost use Rattle.rayon_shared.specs.AtHand.{HasTicket, answer, call_latch};
 ghost use Rattle.rayon_performers.specs.Keeps.{bench_needs, bench_on, bench_stays};
-ghost use Rattle.rayon_performers.specs.Marks.{GivesUnit, MissesUnit, NoLatch, SetBy, TakesUnit, scope_in};
+ghost use Rattle.rayon_shared.specs.Marks.{GivesUnit, MissesUnit, NoLatch, SetBy, TakesUnit, has_book};
 ghost use Rattle.rayon_performers.specs.Stands.{Anyhow, At, IsWorker};
 ghost use Rattle.rayon_queues.specs.Deques.{Pushed, SameDeque, Unmoved};
 ghost use Rattle.rayon_tasks.specs.Tasks.{taken_in};
 ghost use Rattle.rayon_tasks.specs.Tickets.{unscoped};
 
 use crate::bench::Bench;
-use rayon_atomics::latch::{CoreLatch, LatchSeat};
+use rayon_atomics::latch::LatchSeat;
 use rayon_books::Outcome;
 use rayon_drive::drive::Perform;
 use rayon_jobs::JobKind;
 use rayon_machine_places::act::{Act, Seen};
 use rayon_machine_places::place::{Count, Ending, JobKind as Kind, Latch, Party, Share, Taken};
+use rayon_shared::set_latch;
 use rayon_tasks::{Call, Task, Ticket};
 use rayon_words::Refusal;
 use std::alloc::Global;
@@ -271,7 +273,7 @@ impl<J: JobKind> Bench<J> {
         self.add(Act::Store { call, ending }, Seen::Done);
     }
 
-    // Takes what the call's cell holds, and of a scope's call what the scope's book gives.
+    // Takes what the call's cell holds, and of the call of a scope or a broadcast what its book gives.
     fn take<R: Wait>(&mut self, rt: &R, call: u64) -> Seen
         ensures does { Does (acts.Take call) result self.old self.new }
         ensures adds { Adds (acts.Take call) result self.old.trace self.new.trace }
@@ -299,17 +301,17 @@ impl<J: JobKind> Bench<J> {
         }
     }
 
-    // What the book of the scope gives whose call is at hand. None where that is no scope's.
+    // What the book of the scope or the broadcast gives whose call is at hand. None where that is of neither.
     #[inline(always)]
     fn outcome_of_call<R: Wait>(&self, rt: &R) -> Option<Outcome<J>>
-        ensures { is_some result ≡ is_some (scope_in self.now.call) }
+        ensures { is_some result ≡ has_book self.now.call }
     {
-        let call = self.call.as_ref()?;
-        let scope = call.ticket.scope()?;
-        let mut book = scope.book().hold(rt);
-        let outcome = Outcome::of_book(&mut book);
-        let _taken = scope.book().leave(rt, book);
-        Some(outcome)
+        let ticket = &self.call.as_ref()?.ticket;
+        if let Some(scope) = ticket.scope() {
+            return Some(scope.book().with(rt, |book| Outcome::of_book(book)));
+        }
+        let core = ticket.broadcast()?;
+        Some(core.book().with(rt, |book| Outcome::of_runs(book.runs())))
     }
 
     // Takes a unit of the terminate count for a call of this worker. The outermost call's stands in the pool's own
@@ -556,12 +558,4 @@ impl<J: JobKind> Bench<J> {
             }
         }
     }
-}
-
-/// Sets the latch, if there is one, by the one step that makes a seat of it. Answers whether its owner slept, and that
-/// seat.
-pub fn set_latch(latch: Option<&CoreLatch>) -> Option<(bool, LatchSeat)>
-    ensures { MatchOption result (is_some latch.entry ≡ false) (λ r. SetBy ⊥ r.0 (Some (guard r.1))) }
-{
-    Some(latch?.set_as_guest())
 }

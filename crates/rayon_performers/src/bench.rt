@@ -4,13 +4,11 @@ ghost use Rattle.std.specs.Arc.{arc_value};
 ghost use Rattle.rayon_drive.specs.Traces.{AddsRun};
 ghost use Rattle.rayon_drive.specs.declared.trace.Log.TheVariants.{Empty};
 ghost use Rattle.rayon_performers.specs.Hands.{Hands};
-ghost use Rattle.rayon_performers.specs.Pools.{shape_of};
-ghost use Rattle.rayon_performers.specs.Seats.{Resting};
+ghost use Rattle.rayon_shared.specs.Pools.{shape_of};
+ghost use Rattle.rayon_shared.specs.Seats.{Resting};
 ghost use Rattle.rayon_queues.specs.Deques.{visitor};
 ghost use Rattle.rayon_tasks.specs.Calls.{latch_in, ticket_in};
 
-use crate::kit::WorkerKit;
-use crate::registry::Registry;
 use rayon_atomics::count::CountSeat;
 use rayon_atomics::latch::LatchSeat;
 use rayon_atomics::own_latch::OwnLatch;
@@ -19,6 +17,7 @@ use rayon_drive::trace::Trace;
 use rayon_jobs::{Done, JobKind};
 use rayon_machine_places::shape::PoolShape;
 use rayon_queues::{InjectorPass, StealPass, WorkerDeque, XorShift64Star};
+use rayon_shared::{Registry, WorkerKit};
 use rayon_sleep::counters::Chair;
 use rayon_sleep::latch::Owner;
 use rayon_tasks::{Call, Task, Ticket};
@@ -56,13 +55,13 @@ pub struct Bench<J: JobKind> {
     pub(crate) done: Option<Done<J>>,
     // of two sides, the first side's result, and the ticket to whose cell it goes
     pub(crate) first: Option<(Ticket<J>, Done<J>)>,
-    // what the book of a scope that has ended gave
+    // what the book of a scope or a broadcast that has ended gave
     pub(crate) outcome: Option<Outcome<J>>,
     // the terminate latch, with the worker's own seat of it
     pub(crate) terminate: OwnLatch,
     pub(crate) probed: bool,
     pub(crate) holds: u64,
-    // the seat by which a scope's count was stepped on last
+    // the seat by which the count of a scope or a broadcast was stepped on last
     pub(crate) tally: Option<CountSeat>,
     // the seat of the terminate count
     pub(crate) count: CountSeat,
@@ -80,7 +79,7 @@ impl<J: JobKind> Model for Bench<J> {
     ghost use Rattle.rayon_atomics.specs.Tallies.{teller};
     ghost use Rattle.rayon_drive.specs.contracts.trace.Log as logs;
     ghost use Rattle.rayon_performers.specs.Hands.{Hands};
-    ghost use Rattle.rayon_performers.specs.Marks.{seat_in, tally_in};
+    ghost use Rattle.rayon_shared.specs.Marks.{seat_in, tally_in};
     ghost use Rattle.rayon_tasks.specs.Calls.{latch_in, ticket_in};
 
     ghost Value = { Hands J J.Tag J.Output J.Fault };

@@ -11,11 +11,13 @@ ghost use Rattle.rayon_machine_places.specs.declared.place.Mark.TheVariants.{Que
 ghost use Rattle.rayon_machine_places.specs.declared.place.Move.TheVariants.{Back, Mark, Stay};
 ghost use Rattle.rayon_machine_places.specs.declared.place.Party.TheVariants.{Worker};
 ghost use Rattle.rayon_machine_places.specs.declared.place.Place.TheVariants as at;
-ghost use Rattle.rayon_performers.specs.Casts.{Casts, CastsNone, HandsBack, cast_tasks, casting};
-ghost use Rattle.rayon_performers.specs.Hands.{Does, Same, Told, answer};
-ghost use Rattle.rayon_performers.specs.Marks.{GivesUnits, KeepsAll, TakesUnits};
+ghost use Rattle.rayon_performers.specs.Casts.{Casts, CastsNone, HandsBack};
+ghost use Rattle.rayon_shared.specs.Casts.{AreTasksOf, cast_tasks, casting};
+ghost use Rattle.rayon_performers.specs.Hands.{Does, Same, Told};
+ghost use Rattle.rayon_shared.specs.AtHand.{answer};
+ghost use Rattle.rayon_shared.specs.Marks.{GivesUnits, KeepsAll, TakesUnits};
 ghost use Rattle.rayon_performers.specs.Paths.{WorkerGoes};
-ghost use Rattle.rayon_performers.specs.Seats.{Resting};
+ghost use Rattle.rayon_shared.specs.Seats.{Resting};
 ghost use Rattle.rayon_performers.specs.Stands.{EndsIn, Stands};
 
 use crate::bench::Bench;
@@ -99,7 +101,9 @@ impl<J: JobKind> Bench<J> {
 
     // Takes a unit of the terminate count for each piece, all in one step, in the pool's own count. Refused `Ended`,
     // `Full`.
+    #[tactic(auto, using(crate::proofs::ScopeCasts::units_raised, crate::proofs::ScopeCasts::units_missed))]
     fn raise_all<R: Wait>(&mut self, rt: &R, pieces: Pieces) -> Result<(), Refusal>
+        requires { pieces.count ≡ OfPool 0 }
         ensures does { MatchResult result (λ _. Does (acts.RaiseAll pieces) saw.Done self.old self.new) (λ _. Does (acts.RaiseAll pieces) saw.Refused self.old self.new) }
         ensures left { Told self.old self.new }
         ensures adds { MatchResult result (λ _. Adds (acts.RaiseAll pieces) saw.Done self.old.trace self.new.trace) (λ _. Adds (acts.RaiseAll pieces) saw.Refused self.old.trace self.new.trace) }
@@ -124,7 +128,7 @@ impl<J: JobKind> Bench<J> {
 
     // Puts the job into the place that the pieces share, and each piece into the list of its worker, all in one step.
     // The job is lent as it stands there, or comes back where nothing was pushed.
-    fn push_cast<'p, R: Wait>(
+    pub(crate) fn push_cast<'p, R: Wait>(
         &mut self,
         rt: &R,
         pieces: Pieces,
@@ -132,7 +136,7 @@ impl<J: JobKind> Bench<J> {
         place: &'p SharedJob<J>,
         job: J,
     ) -> Result<&'p J, J>
-        requires { tasks.items ≡ cast_tasks (Worker 0 self.old.index) pieces }
+        requires { AreTasksOf (Worker 0 self.old.index) self.old.trace pieces tasks.items }
         ensures job { MatchResult result (λ there. there.now ≡ job) (λ back. back ≡ job) }
         ensures same { Same self.old self.new }
         ensures adds { MatchResult result (λ _. Adds (acts.PushCast pieces) saw.Done self.old.trace self.new.trace) (λ _. Adds (acts.PushCast pieces) saw.Refused self.old.trace self.new.trace) }
@@ -151,7 +155,9 @@ impl<J: JobKind> Bench<J> {
     }
 
     // Gives the units of all pieces back in one step. True exactly if they were the pool's last.
+    #[tactic(auto, using(crate::proofs::ScopeCasts::units_lowered))]
     fn lower_all<R: Wait>(&mut self, rt: &R, pieces: Pieces) -> bool
+        requires { pieces.count ≡ OfPool 0 }
         ensures does { Does (acts.LowerAll pieces) (answer result) self.old self.new }
         ensures left { Told self.old self.new }
         ensures adds { Adds (acts.LowerAll pieces) (answer result) self.old.trace self.new.trace }
@@ -171,7 +177,7 @@ impl<J: JobKind> Bench<J> {
     }
 
     // Calls each worker of the pool, from the first one upward, to the pieces that were queued.
-    fn call_all<R: Wait>(&mut self, rt: &R, pieces: Pieces)
+    pub(crate) fn call_all<R: Wait>(&mut self, rt: &R, pieces: Pieces)
         requires { Resting self.old.chair }
         ensures path { WorkerGoes (Mark (call_all self.old.shape pieces) pieces Queued) self.old self.new Back }
         ensures same { Told self.old self.new }
@@ -208,7 +214,7 @@ impl<J: JobKind> Bench<J> {
 
     // Performs the program from this place on, where workers are woken and latches set, and the frame below goes on
     // after that.
-    fn finish_at<R: Wait>(&mut self, rt: &R, place: Place)
+    pub(crate) fn finish_at<R: Wait>(&mut self, rt: &R, place: Place)
         requires hands { Stands self.old (Stay place) }
         requires ends { EndsIn (Worker 0 self.old.index) Back self.old (Stay place) }
         ensures path { WorkerGoes (Stay place) self.old self.new Back }

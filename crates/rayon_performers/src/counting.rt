@@ -5,7 +5,7 @@ ghost use Rattle.rayon_drive.specs.Traces.{Adds};
 ghost use Rattle.rayon_machine_places.specs.declared.act.Act.TheVariants as acts;
 ghost use Rattle.rayon_machine_places.specs.declared.act.Seen.TheVariants as saw;
 ghost use Rattle.rayon_performers.specs.Hands.{Does};
-ghost use Rattle.rayon_performers.specs.Seats.{Resting, Searching, Sleeping};
+ghost use Rattle.rayon_shared.specs.Seats.{Resting, Searching, Sleeping};
 
 use crate::bench::Bench;
 use rayon_jobs::JobKind;

@@ -12,9 +12,9 @@ ghost use Rattle.rayon_machine_places.specs.declared.place.Share.TheVariants.{Of
 ghost use Rattle.rayon_machine_places.specs.declared.place.Then.TheVariants.{Resume};
 ghost use Rattle.rayon_performers.specs.Finds.{StandsLast};
 ghost use Rattle.rayon_performers.specs.Hands.{Told};
-ghost use Rattle.rayon_performers.specs.Marks.{GivesUnit, KeepsUnits, TakesUnit};
+ghost use Rattle.rayon_shared.specs.Marks.{GivesUnit, KeepsUnits, TakesUnit};
 ghost use Rattle.rayon_performers.specs.Paths.{WorkerGoes};
-ghost use Rattle.rayon_performers.specs.Seats.{Resting};
+ghost use Rattle.rayon_shared.specs.Seats.{Resting};
 ghost use Rattle.rayon_performers.specs.Spawns.{CanClose, ClosesRun, ClosesUnit, Spawns, SpawnsNone, detached_task, done_after, tally_after, with_units};
 ghost use Rattle.rayon_queues.specs.Deques.{SameDeque, Unmoved};
 ghost use Rattle.rayon_tasks.specs.Tickets.{unscoped};
@@ -102,9 +102,9 @@ impl<J: JobKind> Bench<J> {
     /// The end of a run of this kind, whose job has this name and ended so. Where a call waits for the job the result
     /// at hand goes where the call looks for it, the call's latch is set, and its owner is woken where it slept. That
     /// of a scope's job goes into the scope's book, its share of the scope's count is given back, and where it was the
-    /// last the scope's latch is set in the same way. A detached job's unit of the terminate count is given back, and
-    /// where it was the last the workers' terminate latches are set. Of a job that was in no queue nothing is done: the
-    /// call below goes on.
+    /// last the scope's latch is set in the same way. So is it with a piece of a broadcast that waits. A detached job's
+    /// unit of the terminate count is given back, and where it was the last the workers' terminate latches are set. Of
+    /// a job that was in no queue nothing is done: the call below goes on.
     pub fn close<R: Wait>(&mut self, rt: &R, kind: Kind, job: u64, ending: Ending)
         requires asks { CanClose kind ending self.old }
         requires rests { Resting self.old.chair }
@@ -118,10 +118,8 @@ impl<J: JobKind> Bench<J> {
             Kind::Detached(_) => self.end_detached(rt, job),
             Kind::Direct => {}
             Kind::Scoped { call, owner } => self.end_scoped(rt, call, owner, job, ending),
-            Kind::BodyOf { .. }
-            | Kind::PieceOf { .. }
-            | Kind::WholeOf { .. }
-            | Kind::TokenOf { .. } => unreachable!(),
+            Kind::PieceOf { call, owner } => self.end_piece(rt, call, owner, job, ending),
+            Kind::BodyOf { .. } | Kind::WholeOf { .. } | Kind::TokenOf { .. } => unreachable!(),
         }
     }
 

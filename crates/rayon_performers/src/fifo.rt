@@ -12,9 +12,9 @@ ghost use Rattle.rayon_machine_places.specs.declared.place.Plan.TheVariants.{Det
 ghost use Rattle.rayon_performers.specs.Fifos.{FeedsList, FeedsNone, feeding, list_ticket, token_task, token_with};
 ghost use Rattle.rayon_performers.specs.Finds.{StandsLast};
 ghost use Rattle.rayon_performers.specs.Hands.{Does, OfList};
-ghost use Rattle.rayon_performers.specs.Marks.{KeepsUnits, TakesUnit};
+ghost use Rattle.rayon_shared.specs.Marks.{KeepsUnits, TakesUnit};
 ghost use Rattle.rayon_performers.specs.Paths.{WorkerGoes};
-ghost use Rattle.rayon_performers.specs.Seats.{Resting};
+ghost use Rattle.rayon_shared.specs.Seats.{Resting};
 ghost use Rattle.rayon_queues.specs.Deques.{SameDeque, Unmoved};
 ghost use Rattle.rayon_queues.specs.Lists.{Becomes, SameLists, jobs_of};
 ghost use Rattle.rayon_tasks.specs.Tasks.{HasJob, taken_in};
@@ -296,12 +296,7 @@ impl<J: JobKind> Bench<J> {
         ensures list { IfSome result (λ t. OfList scope (Some t)) }
     {
         let lock = self.registry.fifos(worker)?;
-        let mut lists = lock.hold(rt);
-        let first = lists.take_first(scope);
-        let _taken = lock.leave(rt, lists);
-        let Some(task) = first else {
-            return None;
-        };
+        let task = lock.with(rt, |lists| lists.take_first(scope))?;
         if !task.has_job() {
             return None;
         }

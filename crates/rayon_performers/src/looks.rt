@@ -1,15 +1,16 @@
 //! What a worker looks for and pushes without running it. Each is a stretch of the table as far as a task's beginning,
 //! which is not performed, or to its end.
 ghost use Rattle.std.specs.Prelude.{◌≡◌, ◌⊎◌, [], MatchOption, MatchResult, Some, None};
-ghost use Rattle.rayon_machine_places.specs.Places.{undo};
+ghost use Rattle.rayon_machine_places.specs.Places.{undo, walk};
 ghost use Rattle.rayon_machine_places.specs.declared.place.Move.TheVariants.{Back, Stay};
 ghost use Rattle.rayon_machine_places.specs.declared.place.Party.TheVariants.{Worker};
 ghost use Rattle.rayon_machine_places.specs.declared.place.Place.TheVariants as at;
 ghost use Rattle.rayon_machine_places.specs.declared.place.Plan.TheVariants.{Detach};
-ghost use Rattle.rayon_performers.specs.Hands.{Does};
+ghost use Rattle.rayon_machine_places.specs.declared.place.Then.TheVariants.{Resume};
+ghost use Rattle.rayon_performers.specs.Hands.{Does, Told};
 ghost use Rattle.rayon_performers.specs.Finds.{Found, Kept, StandsLast};
 ghost use Rattle.rayon_performers.specs.Paths.{WorkerGoes};
-ghost use Rattle.rayon_performers.specs.Seats.{Resting};
+ghost use Rattle.rayon_shared.specs.Seats.{Resting};
 ghost use Rattle.rayon_queues.specs.Deques.{Popped, SameDeque, Unmoved};
 ghost use Rattle.rayon_tasks.specs.Tasks.{taken_in};
 
@@ -111,15 +112,28 @@ impl<J: JobKind> Bench<J> {
         ensures count { self.new.marks.count ≡ self.old.marks.count }
         ensures rests { Resting self.new.chair }
     {
-        let shape = self.shape;
-        let index = self.index;
         let owed = self.news(rt, 0, was_empty);
         if owed > 0 {
-            let place = Place::TellNews {
-                plan: Plan::Detach { pool: 0, job: name },
-                was_empty,
-            };
-            self.finish_from(rt, shape, index, place, Seen::Wakes(owed), Then::Resume);
+            self.wake_for_job(rt, name, was_empty, owed);
         }
+    }
+
+    // Wakes so many for the task of a call that does not wait, which was pushed.
+    #[cold]
+    #[inline(never)]
+    fn wake_for_job<R: Wait>(&mut self, rt: &R, name: u64, was_empty: bool, owed: u64)
+        requires { Resting self.old.chair }
+        ensures path { WorkerGoes (walk self.old.shape (Worker 0 self.old.index) 0 owed 0 Resume) self.old self.new Back }
+        ensures same { Told self.old self.new }
+        ensures count { self.new.marks.count ≡ self.old.marks.count }
+        ensures rests { Resting self.new.chair }
+    {
+        let shape = self.shape;
+        let index = self.index;
+        let place = Place::TellNews {
+            plan: Plan::Detach { pool: 0, job: name },
+            was_empty,
+        };
+        self.finish_from(rt, shape, index, place, Seen::Wakes(owed), Then::Resume);
     }
 }

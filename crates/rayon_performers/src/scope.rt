@@ -15,11 +15,12 @@ ghost use Rattle.rayon_machine_places.specs.declared.place.Target.TheVariants.{A
 ghost use Rattle.rayon_machine_places.specs.declared.place.Then.TheVariants.{Await};
 ghost use Rattle.rayon_performers.specs.Calls.{own_call};
 ghost use Rattle.rayon_performers.specs.Finds.{StandsLast};
-ghost use Rattle.rayon_performers.specs.Hands.{Does, HasResult, HasTicket, Same, answer};
-ghost use Rattle.rayon_performers.specs.Marks.{GivesShare, IsScope, KeepsUnits, MissesShare, TakesShare, TakesUnit, scope_in, tally_in};
+ghost use Rattle.rayon_performers.specs.Hands.{Does, Same};
+ghost use Rattle.rayon_shared.specs.AtHand.{HasResult, HasTicket, answer};
+ghost use Rattle.rayon_shared.specs.Marks.{GivesShare, IsScope, KeepsUnits, MissesShare, TakesShare, TakesUnit, scope_in, tally_in};
 ghost use Rattle.rayon_performers.specs.Paths.{WorkerGoes};
 ghost use Rattle.rayon_performers.specs.Scopes.{Enters, EntersNone, answering, entered_task, entering, entry_of};
-ghost use Rattle.rayon_performers.specs.Seats.{Resting};
+ghost use Rattle.rayon_shared.specs.Seats.{Resting};
 ghost use Rattle.rayon_performers.specs.Stands.{Last, Stands, hand};
 ghost use Rattle.rayon_performers.specs.Waits.{SameSeat, Waited, units_after};
 ghost use Rattle.rayon_queues.specs.Deques.{SameDeque, Unmoved};
@@ -35,7 +36,7 @@ use rayon_machine_places::act::{Act, Seen};
 use rayon_machine_places::place::{
     Count, Ending, Entry, Move, OpenCall, Party, Place, Plan, Share, Target, Then,
 };
-use rayon_tasks::{Call, ScopeCore, Ticket, task_of_job};
+use rayon_tasks::{Call, CallCore, Ticket, task_of_job};
 use rayon_words::Refusal;
 use std::alloc::Global;
 use std::mem;
@@ -197,7 +198,7 @@ impl<J: JobKind> Bench<J> {
     }
 
     // The scope that the ticket to answer is of.
-    pub(crate) fn scope_at_hand(&self) -> &ScopeCore<J>
+    pub(crate) fn scope_at_hand(&self) -> &CallCore<J>
         requires { IsSome (scope_in self.now.reply) }
         ensures { Some result.now ≡ scope_in self.now.reply }
     {
@@ -402,9 +403,8 @@ impl<J: JobKind> Bench<J> {
     {
         if let (Some(reply), Some(done)) = (&self.reply, self.done.take()) {
             if let Some(scope) = reply.scope() {
-                let mut book = scope.book().hold(rt);
-                let unkept = book.close_slot(reply.slot(), done);
-                let _taken = scope.book().leave(rt, book);
+                let number = reply.slot();
+                let unkept = scope.book().with(rt, |book| book.close_slot(number, done));
                 drop(unkept);
             }
         }
@@ -480,10 +480,9 @@ impl<J: JobKind> Bench<J> {
         ensures adds { Adds (acts.StoreBody call ending) saw.Done self.old.trace self.new.trace }
     {
         if ending == Ending::Fault {
-            let scope = self.scope_at_hand();
-            let mut book = scope.book().hold(rt);
-            book.keep_fault();
-            let _taken = scope.book().leave(rt, book);
+            self.scope_at_hand()
+                .book()
+                .with(rt, |book| book.keep_fault());
         }
         self.add(Act::StoreBody { call, ending }, Seen::Done);
     }

@@ -7,10 +7,10 @@ ghost use Rattle.rayon_machine_places.specs.declared.place.Place.TheVariants as 
 ghost use Rattle.rayon_machine_places.specs.declared.place.Plan.TheVariants.{Detach, Feed};
 ghost use Rattle.rayon_performers.specs.Fifos.{token_with};
 ghost use Rattle.rayon_performers.specs.Finds.{StandsLast};
-ghost use Rattle.rayon_performers.specs.Marks.{IsScope, scope_in};
+ghost use Rattle.rayon_shared.specs.Marks.{IsScope, scope_in};
 ghost use Rattle.rayon_performers.specs.Paths.{WorkerGoes};
 ghost use Rattle.rayon_performers.specs.Scopes.{EntersList, EntersNoList, into, scope_token};
-ghost use Rattle.rayon_performers.specs.Seats.{Resting};
+ghost use Rattle.rayon_shared.specs.Seats.{Resting};
 ghost use Rattle.rayon_queues.specs.Deques.{SameDeque, Unmoved};
 ghost use Rattle.rayon_queues.specs.Lists.{Becomes, SameLists, jobs_of};
 ghost use Rattle.rayon_tasks.specs.Tasks.{OneJob};

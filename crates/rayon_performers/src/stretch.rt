@@ -2,7 +2,7 @@
 //! acts.
 ghost use Rattle.std.specs.Prelude.{◌≡◌, ◌⊎◌, ◌↔◌, ◌+◌, ◌-◌, ◌==◌, ◌++◌, [], ◌∷◌, ℕ, Bool, None, Some, IsTrue, IfErr, IfOk, MatchResult, false};
 ghost use Rattle.rayon_drive.specs.Paths.{goes};
-ghost use Rattle.rayon_machine_places.specs.Places.{finish, fresh, next_of};
+ghost use Rattle.rayon_machine_places.specs.Places.{finish, fresh, next_of, settle, undo, walk};
 ghost use Rattle.rayon_tasks.specs.Tasks.{OneJob};
 ghost use Rattle.rayon_tasks.specs.Tickets.{unscoped};
 ghost use Rattle.rayon_machine_places.specs.declared.act.Seen.TheVariants as saw;
@@ -15,13 +15,15 @@ ghost use Rattle.rayon_machine_places.specs.declared.place.Plan.TheVariants.{Her
 ghost use Rattle.rayon_machine_places.specs.declared.place.Share.TheVariants.{OfJob};
 ghost use Rattle.rayon_machine_places.specs.declared.place.Taken.TheVariants.{Plain};
 ghost use Rattle.rayon_machine_places.specs.declared.place.Target.TheVariants.{Termination};
+ghost use Rattle.rayon_machine_places.specs.declared.place.Then.TheVariants.{RunFirst};
 ghost use Rattle.rayon_performers.specs.Begins.{BringsJob, begins_as};
 ghost use Rattle.rayon_performers.specs.Calls.{IsJobOf, IsOneJob, own_call, own_join};
 ghost use Rattle.rayon_performers.specs.Finds.{StandsLast};
-ghost use Rattle.rayon_performers.specs.Hands.{Does, HasResult, HasTask, HasTicket, Same, Told};
-ghost use Rattle.rayon_performers.specs.Marks.{GivesUnit, KeepsUnits, MissesUnit, TakesUnit};
+ghost use Rattle.rayon_performers.specs.Hands.{Does, HasTask, Same, Told};
+ghost use Rattle.rayon_shared.specs.AtHand.{HasResult, HasTicket};
+ghost use Rattle.rayon_shared.specs.Marks.{GivesUnit, KeepsUnits, MissesUnit, TakesUnit};
 ghost use Rattle.rayon_performers.specs.Paths.{WorkerGoes, WorkerGoesIn};
-ghost use Rattle.rayon_performers.specs.Seats.{Resting};
+ghost use Rattle.rayon_shared.specs.Seats.{Resting};
 ghost use Rattle.rayon_performers.specs.Stands.{Anyhow, At, EndsIn, Last, Stands, call_to, hand};
 ghost use Rattle.rayon_performers.specs.Waits.{FoundSo, SameSeat, Waited, rejoins, units_after, waiting_on};
 ghost use Rattle.rayon_queues.specs.Deques.{SameDeque, Unmoved};
@@ -186,17 +188,30 @@ impl<J: JobKind> Bench<J> {
         ensures unit { (b : Bool) × GivesUnit (self.old.holds == 1) b self.old.marks.count self.new.marks.count }
         ensures rests { Resting self.new.chair }
     {
+        if self.lower(rt, 0, Share::OfJob(job)) {
+            self.end_count(rt, job, then);
+        }
+    }
+
+    // The unit that was given back was the pool's last: the workers' terminate latches are set, before this follows.
+    #[cold]
+    #[inline(never)]
+    fn end_count<R: Wait>(&mut self, rt: &R, job: u64, then: Then)
+        requires hands { At Anyhow (Worker 0 self.old.index) self.old (settle self.old.shape (Worker 0 self.old.index) 0 0 then) }
+        requires ends { EndsIn (Worker 0 self.old.index) (finish (Worker 0 self.old.index) then) self.old (settle self.old.shape (Worker 0 self.old.index) 0 0 then) }
+        ensures path { WorkerGoes (settle self.old.shape (Worker 0 self.old.index) 0 0 then) self.old self.new (finish (Worker 0 self.old.index) then) }
+        ensures same { Told self.old self.new }
+        ensures count { self.new.marks.count ≡ self.old.marks.count }
+        ensures rests { Resting self.new.chair }
+    {
         let shape = self.shape;
         let index = self.index;
-        let share = Share::OfJob(job);
-        if self.lower(rt, 0, share) {
-            let place = Place::LowerCount {
-                count: Count::OfPool(0),
-                share,
-                then,
-            };
-            self.finish_from(rt, shape, index, place, Seen::Yes, then);
-        }
+        let place = Place::LowerCount {
+            count: Count::OfPool(0),
+            share: Share::OfJob(job),
+            then,
+        };
+        self.finish_from(rt, shape, index, place, Seen::Yes, then);
     }
 
     /// A join offers its second side, a job that has this name: Raise, Grow, LookOwn, PushOwn, News and its wakes, as
@@ -227,26 +242,39 @@ impl<J: JobKind> Bench<J> {
         ensures rests { Resting self.new.chair }
         ensures refused { IfErr result (λ e. (e.0 ≡ Refusal.Ended) ⊎ ((e.0 ≡ Refusal.Full) ⊎ (e.0 ≡ Refusal.NoRoom))) }
     {
+        if let Err(refusal) = self.raise(rt, name) {
+            return Err((refusal, job));
+        }
+        let Some((held, share)) = self.grow(alloc, name) else {
+            self.give_join_back(rt, name);
+            return Err((Refusal::NoRoom, job));
+        };
+        let was_empty = self.look_own();
+        if let Err(task) = self.push_own(name, None, task_of_job(job, injected, share)) {
+            self.give_join_back(rt, name);
+            return Err((Refusal::NoRoom, only_job(task)));
+        }
+        self.tell_news(rt, name, was_empty);
+        Ok(held)
+    }
+
+    // A join that finds no room gives its unit of the terminate count back, and its sides.
+    #[cold]
+    #[inline(never)]
+    fn give_join_back<R: Wait>(&mut self, rt: &R, name: u64)
+        requires { Resting self.old.chair }
+        ensures path { WorkerGoes (Stay (undo (own_join name))) self.old self.new (HandBack (own_join name)) }
+        ensures same { self.new ≡ record self.old { holds = self.old.holds - 1; marks = self.new.marks; trace = self.new.trace } }
+        ensures unit { (b : Bool) × GivesUnit (self.old.holds == 1) b self.old.marks.count self.new.marks.count }
+        ensures rests { Resting self.new.chair }
+    {
         let call = OpenCall {
             number: name,
             pool: 0,
             job: name,
         };
         let plan = Plan::Fork { call, first: name };
-        if let Err(refusal) = self.raise(rt, name) {
-            return Err((refusal, job));
-        }
-        let Some((held, share)) = self.grow(alloc, name) else {
-            self.lower_then(rt, name, Then::GiveBack(plan));
-            return Err((Refusal::NoRoom, job));
-        };
-        let was_empty = self.look_own();
-        if let Err(task) = self.push_own(name, None, task_of_job(job, injected, share)) {
-            self.lower_then(rt, name, Then::GiveBack(plan));
-            return Err((Refusal::NoRoom, only_job(task)));
-        }
-        self.tell_news(rt, name, was_empty);
-        Ok(held)
+        self.lower_then(rt, name, Then::GiveBack(plan));
     }
 
     // Tells that a join's second side was pushed, and wakes whom that owes a wake, before its first side runs.
@@ -258,22 +286,35 @@ impl<J: JobKind> Bench<J> {
         ensures count { self.new.marks.count ≡ self.old.marks.count }
         ensures rests { Resting self.new.chair }
     {
-        let shape = self.shape;
-        let index = self.index;
         let owed = self.news(rt, 0, was_empty);
         if owed > 0 {
-            let call = OpenCall {
-                number: name,
-                pool: 0,
-                job: name,
-            };
-            let place = Place::TellNews {
-                plan: Plan::Fork { call, first: name },
-                was_empty,
-            };
-            let then = Then::RunFirst { call, first: name };
-            self.finish_from(rt, shape, index, place, Seen::Wakes(owed), then);
+            self.wake_for_join(rt, name, was_empty, owed);
         }
+    }
+
+    // Wakes so many for a join's second side that was pushed, before its first side runs.
+    #[cold]
+    #[inline(never)]
+    fn wake_for_join<R: Wait>(&mut self, rt: &R, name: u64, was_empty: bool, owed: u64)
+        requires { Resting self.old.chair }
+        ensures path { WorkerGoes (walk self.old.shape (Worker 0 self.old.index) 0 owed 0 (RunFirst (own_call name) name)) self.old self.new (StartRun (at.FirstSide (own_call name) name) name) }
+        ensures same { Told self.old self.new }
+        ensures count { self.new.marks.count ≡ self.old.marks.count }
+        ensures rests { Resting self.new.chair }
+    {
+        let shape = self.shape;
+        let index = self.index;
+        let call = OpenCall {
+            number: name,
+            pool: 0,
+            job: name,
+        };
+        let place = Place::TellNews {
+            plan: Plan::Fork { call, first: name },
+            was_empty,
+        };
+        let then = Then::RunFirst { call, first: name };
+        self.finish_from(rt, shape, index, place, Seen::Wakes(owed), then);
     }
 
     /// An install by a worker of the pool takes its unit of the terminate count, as far as the beginning of its job's

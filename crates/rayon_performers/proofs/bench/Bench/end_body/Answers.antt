@@ -10,7 +10,7 @@ use Rattle.rayon_machine_places.specs.declared.place.Target.TheVariants.{Answer}
 use Rattle.rayon_machine_places.specs.declared.place.Then.TheVariants.{Await}
 use Rattle.rayon_machine_places.specs.Places.{fresh, set_call}
 use Rattle.rayon_drive.specs.Traces.{Adds}
-use Rattle.rayon_performers.specs.Hands.{answer}
+use Rattle.rayon_shared.specs.AtHand.{answer}
 use Rattle.rayon_performers.proofs.Scopes.{body_lowered, body_not_last, body_stored}
 use Rattle.rayon_performers.proofs.Stretches.{So, and_then, of_worker}
 use Rattle.rayon_performers.proofs.bench.Bench.end_body.Goals as goal

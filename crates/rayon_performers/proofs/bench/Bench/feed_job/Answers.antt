@@ -9,7 +9,7 @@ use Rattle.rayon_machine_places.specs.declared.place.Place.TheVariants as at
 use Rattle.rayon_machine_places.specs.declared.place.Plan.TheVariants.{Feed}
 use Rattle.rayon_machine_places.specs.Places.{undo}
 use Rattle.rayon_performers.specs.Fifos.{feeding}
-use Rattle.rayon_performers.specs.Marks.{TakesUnit}
+use Rattle.rayon_shared.specs.Marks.{TakesUnit}
 use Rattle.rayon_performers.proofs.Fifos.{fed_not_raised, fed_raised}
 use Rattle.rayon_performers.proofs.Recounts.{gave_back_at, missed_none}
 use Rattle.rayon_performers.proofs.Stretches.{So, and_then, of_worker}

@@ -4,5 +4,5 @@ use Rattle.rayon_performers.proofs.bench.Bench.first_listed.Goals as goal
 pub same-task : goal.same-task
 same-task g c = refl
 
-pub same-task-in-Some-scope : goal.same-task-in-Some-scope
-same-task-in-Some-scope g c = refl
+pub same-task-in-Some : goal.same-task-in-Some
+same-task-in-Some g c = refl

@@ -9,7 +9,7 @@ use Rattle.rayon_machine_places.specs.declared.act.Seen.TheVariants.{Yes, No}
 use Rattle.rayon_machine_places.specs.Places.{finish, settle}
 use Rattle.rayon_performers.proofs.Stretches.{So, so_far, by_act, and_then}
 use Rattle.rayon_performers.specs.Keeps.{settle_at}
-use Rattle.rayon_performers.specs.Marks.{GivesUnit}
+use Rattle.rayon_shared.specs.Marks.{GivesUnit}
 use Rattle.rayon_performers.specs.Stands.{Anyhow, At, EndsIn, hand}
 use Rattle.rayon_performers.proofs.Drives.{follows}
 use Rattle.rayon_performers.proofs.bench.Bench.lower_then.Goals as goal
@@ -20,9 +20,9 @@ returns-then-lower-clause-path g c =
     let i = c.args.self.now.index in
     let first = Stay (at.LowerCount (OfPool 0) (OfJob c.args.job) c.args.then) in
     let s = c.args.self.now in
-    and_then h i first s (settle h (Worker 0 i) 0 0 c.args.then) (finish (Worker 0 i) c.args.then) c.lower.new.self c.finish_from.new.self
+    and_then h i first s (settle h (Worker 0 i) 0 0 c.args.then) (finish (Worker 0 i) c.args.then) c.lower.new.self c.end_count.new.self
     (by_act h i first s first s c.lower.new.self Yes refl (so_far h i first s) c.if-lower.ensures.does c.if-lower.ensures.adds)
-    (subst (λ v. So v.shape v.index (settle v.shape (Worker 0 v.index) 0 0 c.args.then) c.lower.new.self (finish (Worker 0 v.index) c.args.then) c.finish_from.new.self) c.self.view_is c.finish_from.ensures.path)
+    (subst (λ v. So v.shape v.index (settle v.shape (Worker 0 v.index) 0 0 c.args.then) c.lower.new.self (finish (Worker 0 v.index) c.args.then) c.end_count.new.self) c.if-lower.ensures.left c.end_count.ensures.path)
 
 pub returns-else-lower-clause-path : goal.returns-else-lower-clause-path
 returns-else-lower-clause-path g c =
@@ -32,25 +32,25 @@ returns-else-lower-clause-path g c =
     let s = c.args.self.now in
     by_act h i first s first s c.lower.new.self No refl (so_far h i first s) c.if-lower.ensures.does c.if-lower.ensures.adds
 
-pub finish_from-requires-clause-hands : goal.finish_from-requires-clause-hands
-finish_from-requires-clause-hands g c =
+pub end_count-requires-clause-hands : goal.end_count-requires-clause-hands
+end_count-requires-clause-hands g c =
     let s = c.args.self.now in
     let u = c.lower.new.self in
-    subst (λ v. At Anyhow (Worker 0 v.index) u (settle v.shape (Worker 0 v.index) 0 0 c.args.then)) (sym c.self.view_is)
+    subst (λ v. At Anyhow (Worker 0 v.index) u (settle v.shape (Worker 0 v.index) 0 0 c.args.then)) (sym c.if-lower.ensures.left)
     (settle_at Anyhow u s.shape 0 s.index 0 0 c.args.then (follows Anyhow s u (s.holds - 1) s.tally 0 s.index c.args.then (ap hand c.if-lower.ensures.left) c.requires.last c.requires.rests tt))
 
-pub finish_from-requires-clause-ends : goal.finish_from-requires-clause-ends
-finish_from-requires-clause-ends g c =
+pub end_count-requires-clause-ends : goal.end_count-requires-clause-ends
+end_count-requires-clause-ends g c =
     let s = c.args.self.now in
     let u = c.lower.new.self in
     let last = finish (Worker 0 s.index) c.args.then in
-    subst (λ v. EndsIn (Worker 0 v.index) (finish (Worker 0 v.index) c.args.then) u (settle v.shape (Worker 0 v.index) 0 0 c.args.then)) (sym c.self.view_is)
+    subst (λ v. EndsIn (Worker 0 v.index) (finish (Worker 0 v.index) c.args.then) u (settle v.shape (Worker 0 v.index) 0 0 c.args.then)) (sym c.if-lower.ensures.left)
     (settle_at (λ m v. (m ≡ last) × (v ≡ hand u)) u s.shape 0 s.index 0 0 c.args.then (follows (λ m v. (m ≡ last) × (v ≡ hand u)) s u (s.holds - 1) s.tally 0 s.index c.args.then (ap hand c.if-lower.ensures.left) c.requires.last c.requires.rests (refl, refl)))
 
 pub returns-then-lower-clause-unit : goal.returns-then-lower-clause-unit
 returns-then-lower-clause-unit g c =
     let s = c.args.self.now in
-    (true, subst (λ (z : Teller). GivesUnit (s.holds == 1) true s.marks.count z) (sym c.finish_from.ensures.count) c.if-lower.ensures.does.1)
+    (true, subst (λ (z : Teller). GivesUnit (s.holds == 1) true s.marks.count z) (sym c.end_count.ensures.count) c.if-lower.ensures.does.1)
 
 pub returns-else-lower-clause-unit : goal.returns-else-lower-clause-unit
 returns-else-lower-clause-unit g c = (false, c.if-lower.ensures.does.1)

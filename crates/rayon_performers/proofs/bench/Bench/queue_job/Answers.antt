@@ -4,7 +4,7 @@ use Rattle.rayon_machine_places.specs.declared.place.Move.TheVariants.{Stay, Bac
 use Rattle.rayon_machine_places.specs.declared.place.Place.TheVariants as at
 use Rattle.rayon_machine_places.specs.declared.place.Plan.TheVariants.{Detach}
 use Rattle.rayon_machine_places.specs.Places.{undo}
-use Rattle.rayon_performers.specs.Marks.{TakesUnit}
+use Rattle.rayon_shared.specs.Marks.{TakesUnit}
 use Rattle.rayon_performers.proofs.Recounts.{gave_back_at, missed_none}
 use Rattle.rayon_performers.proofs.Spawns.{not_raised, raised}
 use Rattle.rayon_performers.proofs.Stretches.{So, and_then, of_worker}

@@ -1,5 +1,6 @@
 use Rattle.std.proofs.Common.{inl, inr, subst}
-use Rattle.rayon_performers.specs.Casts.{Casts, CastsNone, casting}
+use Rattle.rayon_performers.specs.Casts.{Casts, CastsNone}
+use Rattle.rayon_shared.specs.Casts.{casting}
 use Rattle.rayon_performers.proofs.Casts.{cast_called, cast_not_raised, cast_withdrawn}
 use Rattle.rayon_performers.proofs.bench.Bench.spawn_broadcast.Goals as goal
 

@@ -1,6 +1,6 @@
 use Rattle.std.proofs.Common.{◌≡◌, rules, sym, subst}
 use Rattle.rayon_atomics.specs.declared.views.Teller.{Teller}
-use Rattle.rayon_performers.specs.Marks.{KeepsUnits}
+use Rattle.rayon_shared.specs.Marks.{KeepsUnits}
 use Rattle.rayon_performers.proofs.bench.Bench.spawn_fifo.Goals as goal
 
 pub returns-in-Err-fed-clause-unit : goal.returns-in-Err-fed-clause-unit

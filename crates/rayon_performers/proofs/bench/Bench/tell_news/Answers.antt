@@ -17,9 +17,9 @@ returns-then-owed-gt0-clause-path g c =
     let n = c.args.name in
     let first = Stay (at.TellNews (own_join n) c.args.was_empty) in
     let s = c.args.self.now in
-    and_then h i first s (walk h (Worker 0 i) 0 c.news-owed.result 0 (RunFirst (own_call n) n)) (StartRun (at.FirstSide (own_call n) n) n) c.news-owed.new.self c.finish_from.new.self
+    and_then h i first s (walk h (Worker 0 i) 0 c.news-owed.result 0 (RunFirst (own_call n) n)) (StartRun (at.FirstSide (own_call n) n) n) c.news-owed.new.self c.wake_for_join.new.self
     (told h i n s c.news-owed.new.self c.args.was_empty c.news-owed.result c.news-owed.ensures.does c.news-owed.ensures.adds)
-    (subst (λ v. So v.shape v.index (walk v.shape (Worker 0 v.index) 0 c.news-owed.result 0 (RunFirst (own_call n) n)) c.news-owed.new.self (StartRun (at.FirstSide (own_call n) n) n) c.finish_from.new.self) c.self.view_is c.finish_from.ensures.path)
+    (subst (λ v. So v.shape v.index (walk v.shape (Worker 0 v.index) 0 c.news-owed.result 0 (RunFirst (own_call n) n)) c.news-owed.new.self (StartRun (at.FirstSide (own_call n) n) n) c.wake_for_join.new.self) c.news-owed.ensures.same c.wake_for_join.ensures.path)
 
 pub returns-else-owed-gt0-clause-path : goal.returns-else-owed-gt0-clause-path
 returns-else-owed-gt0-clause-path g c =

@@ -18,9 +18,9 @@ returns-then-owed-gt0-clause-path g c =
     let first = Stay (at.TellNews (Detach 0 c.args.name) c.args.was_empty) in
     let s = c.args.self.now in
     let t = c.news-owed.new.self in
-    and_then h i first s (walk h (Worker 0 i) 0 c.news-owed.result 0 Resume) Back t c.finish_from.new.self
+    and_then h i first s (walk h (Worker 0 i) 0 c.news-owed.result 0 Resume) Back t c.wake_for_job.new.self
     (push_told h i c.args.name s t t c.args.was_empty c.news-owed.result c.news-owed.ensures.does c.news-owed.ensures.adds)
-    (subst (λ v. So v.shape v.index (walk v.shape (Worker 0 v.index) 0 c.news-owed.result 0 Resume) t Back c.finish_from.new.self) c.self.view_is c.finish_from.ensures.path)
+    (subst (λ v. So v.shape v.index (walk v.shape (Worker 0 v.index) 0 c.news-owed.result 0 Resume) t Back c.wake_for_job.new.self) c.news-owed.ensures.same c.wake_for_job.ensures.path)
 
 pub returns-else-owed-gt0-clause-path : goal.returns-else-owed-gt0-clause-path
 returns-else-owed-gt0-clause-path g c =

@@ -22,7 +22,7 @@ use Rattle.rayon_machine_places.specs.Places.{act_of, after_set, call_all, end_c
 use Rattle.rayon_drive.specs.Moves.{stays_at}
 use Rattle.rayon_drive.specs.Paths.{act_at, goes, onward}
 use Rattle.rayon_drive.proofs.Paths.{driven_from, driven_keeps, driven_then, goes_on, starts}
-use Rattle.rayon_performers.specs.Marks.{Marks}
+use Rattle.rayon_shared.specs.Marks.{Marks}
 use Rattle.rayon_guests.specs.Casts.{Casts, HandsBack, Made, Same, cast_of}
 use Rattle.rayon_guests.specs.Visits.{Visit, Does}
 use Rattle.rayon_guests.proofs.Visits.{So}
@@ -34,7 +34,7 @@ Ends Resume = Unit {0}
 Ends _ = ⊥
 
 -- workers are woken or latches are set, and then the call is over
-abbrev Closes : Move → Type 0
+abbrev pub Closes : Move → Type 0
 Closes (Stay (at.LockToWake k)) = Ends k.then
 Closes (Stay (at.WakeWorker k)) = Ends k.then
 Closes (Stay (at.UnlockWoken k)) = Ends k.then
@@ -42,6 +42,7 @@ Closes (Stay (at.SetLatch x)) = Ends x.then
 Closes (Stay (at.LockToSettle x)) = Ends x.then
 Closes (Stay (at.WakeSettled x)) = Ends x.then
 Closes (Stay (at.UnlockSettled x)) = Ends x.then
+Closes (Stay (at.SetLockLatch c t)) = Ends t
 Closes Back = Unit {0}
 Closes _ = ⊥
 
@@ -78,10 +79,11 @@ closes_on h (at.SetLatch x) _ a = after_set_closes h x x.latch a
 closes_on h (at.LockToSettle x) _ a = a
 closes_on h (at.WakeSettled x) _ a = a
 closes_on h (at.UnlockSettled x) _ a = after_set_closes h x x.latch a
+closes_on h (at.SetLockLatch c t) _ a = finish_closes t a
 closes_on h _ _ a = absurd a
 
 -- where a call is over the table leads to no place
-over : (y : Place) → Back ≡ Stay y → is_rest y ≡ true
+pub over : (y : Place) → Back ≡ Stay y → is_rest y ≡ true
 over y e = absurd (true≢false (ap (λ (m : Move). elim m [ Back ↦ true | _ ↦ false ]) e))
 
 module _ {X G O F H : Type 0} where
@@ -97,6 +99,7 @@ module _ {X G O F H : Type 0} where
   left_by s t (at.LockToSettle z) x a d = ((d.0, d.1, d.2), ap (λ (m : Marks). m.count) d.6)
   left_by s t (at.WakeSettled z) x a d = ((d.0, d.1, d.2), ap (λ (m : Marks). m.count) d.6)
   left_by s t (at.UnlockSettled z) x a d = ((d.0, d.1, d.2), ap (λ (m : Marks). m.count) d.6)
+  left_by s t (at.SetLockLatch c n) x a d = ((d.0, d.1, d.2), ap (λ (m : Marks). m.count) d.6)
   left_by s t _ x a d = absurd a
 
   -- workers are woken or latches are set, and there is nothing else
@@ -112,10 +115,8 @@ module _ {X G O F H : Type 0} where
           (closes_on h y x b.0, ((k.0.0 ∙ b.1.0.0, k.0.1 ∙ b.1.0.1, k.0.2 ∙ b.1.0.2), k.1 ∙ b.1.1))
 
   -- each worker is called
-  pub called : (h : PoolShape) (c : Pieces) (s u : Visit X G O F H) → c ≡ cast_of c.first h.workers → So h (Stay (at.LockToWake (record { pool = 0; owed = c.workers; worker = 0; then = Called }))) s Back u → So h (Mark (call_all h c) c Queued) s Back u
-  called h c s u e d =
-      let pool = ap (λ (z : Pieces). z.pool) e in
-      let all = ap (λ (z : Pieces). z.workers) e in
+  pub called : (h : PoolShape) (c : Pieces) (s u : Visit X G O F H) → c.pool ≡ 0 → c.workers ≡ h.workers → So h (Stay (at.LockToWake (record { pool = 0; owed = c.workers; worker = 0; then = Called }))) s Back u → So h (Mark (call_all h c) c Queued) s Back u
+  called h c s u pool all d =
       let each = subst (λ (k : ℕ). So h (Stay (at.LockToWake (record { pool = 0; owed = k; worker = 0; then = Called }))) s Back u) all d in
       let there = subst (λ (r : ℕ). So h (Stay (at.LockToWake (record { pool = r; owed = h.workers; worker = 0; then = Called }))) s Back u) (sym pool) each in
       driven_from (λ (v : Visit X G O F H) x y w. Does x y v w) (λ (v : Visit X G O F H). v.trace) h (Caller 0) (Mark (call_all h c) c Queued) (call_all h c) s u Back refl refl over there
@@ -128,7 +129,7 @@ module _ {X G O F H : Type 0} where
       subst (λ (k : Count). So h (Mark (ends_count k) c Returned) s Back u) (sym (ap (λ (z : Pieces). z.count) e)) there
 
   -- a path of one act
-  one : (m : Move) (x : Seen) (s t : Visit X G O F H) → goes m ≡ true → Made (act_at (Caller 0) m) x s t → So s.shape m s (onward s.shape (Caller 0) m x) t
+  pub one : (m : Move) (x : Seen) (s t : Visit X G O F H) → goes m ≡ true → Made (act_at (Caller 0) m) x s t → So s.shape m s (onward s.shape (Caller 0) m x) t
   one m x s t g d =
       let none = starts (λ (v : Visit X G O F H) a y w. Does a y v w) (λ (v : Visit X G O F H). v.trace) s.shape (Caller 0) m s in
       goes_on (λ (v : Visit X G O F H) a y w. Does a y v w) (λ (v : Visit X G O F H). v.trace) s.shape (Caller 0) m s s m x t none g d.0 d.1

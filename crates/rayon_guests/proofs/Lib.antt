@@ -1,2 +1,4 @@
 pub mod Casts
+pub mod Gathers
+pub mod ScopeCasts
 pub mod Visits

@@ -27,7 +27,7 @@ use Rattle.rayon_jobs.specs.Within.{Run}
 use Rattle.rayon_guests.specs.declared.load.Load.{Load}
 use Rattle.rayon_guests.specs.Paths.{Enters, EntersHere, EntersNone, EntersNoneHere, calling}
 use Rattle.rayon_guests.specs.Visits.{Visit, Hand, Does, after, call_of, hand, opening, sent}
-use Rattle.rayon_guests.specs.Visiting.{At, Fits, IsEnter, IsScoped, IsSend, KeepsCall, Kept, KeptIn, NotOpen, at_on}
+use Rattle.rayon_guests.specs.Visiting.{At, Fits, IsEnter, IsScoped, IsSend, KeepsCall, Kept, KeptIn, IsWhole, at_on}
 
 -- a call that sends its load keeps no ticket of a scope
 not_sent : (p n : Plan) (k l : Option TicketOf) → n ≡ p → IsSend n → KeepsCall p k l
@@ -72,6 +72,8 @@ module _ {X G O F H : Type 0} where
   kept_on p b s t (at.LowerCount _ o n) x a k = k
   kept_on p b s t (at.OpenSlot n) x a k = kept_numbered p n b s t.slot a.1.1 a.1.3 k
   kept_on p b s t (at.PushJob n e) Done a k = kept_pushed p n s.slot b s.load s.inlet a.1.0 k
+  kept_on p b s t (at.PushForAll c) x a k = absurd a.1
+  kept_on p b s t (at.DealPieces g) x a k = absurd a.1
   kept_on p b s t (at.BeginTask n) x a k = absurd a.1
   kept_on p b s t _ _ a k = k
 
@@ -113,7 +115,7 @@ module _ {X G O F H : Type 0} where
 
       keeps : (v w : Visit X G O F H) (y : Place) (x : Seen) → is_rest y ≡ false → At p (hand v) (Stay y) × KeepsAll p s v → Does (act_of (Caller 0) y) x v w → At p (hand w) (next_of h (Caller 0) y x) × KeepsAll p s w
       keeps v w y x r b e = (
-        subst (λ (z : Hand X G O F H). At p z (next_of h (Caller 0) y x)) (sym e.0) (at_on p (hand v) (hand w) h y x e.3 b.0),
+        subst (λ (z : Hand X G O F H). At p z (next_of h (Caller 0) y x)) (sym e.0) (at_on v.shape.workers p (hand v) (hand w) h y x e.3 b.0),
         (
           subst (λ (z : Hand X G O F H). Kept (plan_job p) (hand s) z) (sym e.0) (kept_on p (hand s) (hand v) (hand w) y x b.0 b.1.0),
           subst (λ (z : Hand X G O F H). KeepsCall p s.call z.call) (sym e.0) (call_kept p s.call (hand v) (hand w) y x b.0 b.1.1),
@@ -122,18 +124,18 @@ module _ {X G O F H : Type 0} where
         ),
       )
 
-  -- a call that opens no scope runs no body
-  pub no_body : (p : Plan) (s : Hand X G O F H) (y : Place) (n : ℕ) → NotOpen p → At p s (StartRun y n) → ⊥
-  no_body p s (at.ScopeBody o) n c a = subst (λ (q : Plan). NotOpen q) (sym a.0) c
+  -- a call that one drive makes to its end runs no body
+  pub no_body : (p : Plan) (s : Hand X G O F H) (y : Place) (n : ℕ) → IsWhole p → At p s (StartRun y n) → ⊥
+  no_body p s (at.ScopeBody o) n c a = subst (λ (q : Plan). IsWhole q) (sym a.0) c
   no_body p s _ n c a = absurd a
 
-  -- nor does one with a load
-  pub load_opens_none : (p : Plan) (l : Load X G O F H) (k : Option TicketOf) → Fits p (Some l) k → NotOpen p
-  load_opens_none (Open o) l k f = true≢false (ap (λ (z : Option (Load X G O F H)). elim z [ Some w ↦ true | None ↦ false ]) f.1)
-  load_opens_none (Send o) l k f = tt
-  load_opens_none (Detach r n) l k f = tt
-  load_opens_none (Enter e) l k f = tt
-  load_opens_none _ l k f = absurd f
+  -- such is one that queues a load
+  pub load_whole : (p : Plan) (l : Load X G O F H) (k : Option TicketOf) → Fits p (Some l) k → IsWhole p
+  load_whole (Open o) l k f = true≢false (ap (λ (z : Option (Load X G O F H)). elim z [ Some w ↦ true | None ↦ false ]) f.1)
+  load_whole (Send o) l k f = tt
+  load_whole (Detach r n) l k f = tt
+  load_whole (Enter e) l k f = tt
+  load_whole _ l k f = absurd f
 
   -- a scope's body begins to run, under the name of its call
   pub begun : (s t : Visit X G O F H) (o : OpenCall) (y : Place) (n k : ℕ) → o ≡ call_of k → At (Open o) (hand t) (StartRun y n) → So s.shape (Stay (at.RaiseCount (Open o))) s (StartRun y n) t → So s.shape (Stay (at.RaiseCount (opening k))) s (StartRun (at.ScopeBody (call_of k)) k) t
@@ -150,7 +152,7 @@ module _ {X G O F H : Type 0} where
   handed s t o n k e f d = subst (λ (z : OpenCall). So s.shape (Stay (at.RaiseCount (Open z))) s (HandBack (Open z)) t) e (subst (λ (q : Plan). So s.shape (Stay (at.RaiseCount (Open o))) s (HandBack q) t) f d)
 
   -- the ticket of a scope stands for that of the call while a caller spawns into the scope, and no longer
-  own_call : (j k : Option TicketOf) (s u v t : Visit X G O F H) → u ≡ calling k s → v.call ≡ u.call → t ≡ calling j v → calling k t ≡ v
+  pub own_call : (j k : Option TicketOf) (s u v t : Visit X G O F H) → u ≡ calling k s → v.call ≡ u.call → t ≡ calling j v → calling k t ≡ v
   own_call j k s u v t a b c = ap (λ (w : Visit X G O F H). calling k w) c ∙ ap (λ (z : Option TicketOf). calling z v) (sym (b ∙ ap (λ (w : Visit X G O F H). w.call) a))
 
   pub exchanged : (j k : Option TicketOf) (e : Entry) (s u v t : Visit X G O F H) → u ≡ calling k s → v.call ≡ u.call → t ≡ calling j v → EntersHere e u v → Enters k e s t

@@ -1,4 +1,5 @@
 pub mod Casts
+pub mod Gathers
 pub mod Paths
 pub mod Visiting
 pub mod Visits

@@ -6,6 +6,7 @@ use Rattle.rayon_machine_places.specs.declared.place.Move.TheVariants.{Back, Han
 use Rattle.rayon_machine_places.specs.declared.place.Party.TheVariants.{Caller}
 use Rattle.rayon_machine_places.specs.declared.place.Place.TheVariants.{RaiseCount}
 use Rattle.rayon_machine_places.specs.declared.place.Plan.TheVariants.{Enter}
+use Rattle.rayon_machine_places.specs.declared.shape.PoolShape.{PoolShape}
 use Rattle.rayon_drive.specs.Paths.{Driven}
 use Rattle.rayon_jobs.specs.Within.{Run}
 use Rattle.rayon_tasks.specs.Tickets.{TicketOf}
@@ -16,6 +17,10 @@ module _ {X G O F H : Type 0} where
   -- an outside caller made the acts of a path of the table, and no other
   abbrev pub CallerGoes : Move → Visit X G O F H → Visit X G O F H → Move → Type 0
   CallerGoes m s t n = Driven (λ (u : Visit X G O F H) a x v. Does a x u v) (λ (u : Visit X G O F H). u.trace) s.shape (Caller 0) m s t n
+
+  -- the same, in a pool of this shape
+  abbrev pub CallerGoesIn : PoolShape → Move → Visit X G O F H → Visit X G O F H → Move → Type 0
+  CallerGoesIn h m s t n = Driven (λ (u : Visit X G O F H) a x v. Does a x u v) (λ (u : Visit X G O F H). u.trace) h (Caller 0) m s t n
 
   -- an outside caller spawned the job of this entry into the scope whose ticket it has in hand, from the spawn's Raise to its end
   abbrev pub EntersHere : Entry → Visit X G O F H → Visit X G O F H → Type 0

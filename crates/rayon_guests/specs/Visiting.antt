@@ -8,7 +8,7 @@ use Rattle.rayon_machine_places.specs.declared.place.Latch.{Latch}
 use Rattle.rayon_machine_places.specs.declared.place.Latch.TheVariants.{Terminate, OfCall}
 use Rattle.rayon_machine_places.specs.declared.place.OpenCall.{OpenCall}
 use Rattle.rayon_machine_places.specs.declared.place.Plan.{Plan}
-use Rattle.rayon_machine_places.specs.declared.place.Plan.TheVariants.{Send, Detach, Open, Enter}
+use Rattle.rayon_machine_places.specs.declared.place.Plan.TheVariants.{Send, Detach, Open, Enter, Gather}
 use Rattle.rayon_machine_places.specs.declared.place.Then.{Then}
 use Rattle.rayon_machine_places.specs.declared.place.Settling.{Settling}
 use Rattle.rayon_machine_places.specs.declared.place.Place.{Place}
@@ -23,12 +23,12 @@ use Rattle.rayon_drive.specs.Moves.{stays_at}
 use Rattle.rayon_drive.specs.Paths.{place_of}
 use Rattle.rayon_queues.specs.Deques.{Visitor}
 use Rattle.rayon_tasks.specs.Tasks.{TaskOf}
-use Rattle.rayon_tasks.specs.Tickets.{ScopeOf, TicketOf}
+use Rattle.rayon_tasks.specs.Tickets.{CoreOf, TicketOf, call_alone}
 use Rattle.rayon_guests.specs.declared.load.Load.{Load}
 use Rattle.rayon_guests.specs.declared.load.Load.TheVariants.{Job, Sides, Detached, Scoped}
-use Rattle.rayon_performers.specs.Hands.{HasTicket}
-use Rattle.rayon_performers.specs.Marks.{IsScope, scope_in}
-use Rattle.rayon_guests.specs.Visits.{Visit, Hand, hand, Needs, Does, Grown, GrownFor, HasCall, IsNewScope, LentFor, Packed, after, detached_ticket, first_of, if_done, sent, ticket_of, unit_after}
+use Rattle.rayon_shared.specs.AtHand.{HasTicket}
+use Rattle.rayon_shared.specs.Marks.{IsScope, scope_in}
+use Rattle.rayon_guests.specs.Visits.{Visit, Hand, hand, Needs, Does, Grown, GrownFor, HasCall, IsCast, IsNewScope, LentFor, Packed, after, detached_ticket, first_of, if_done, sent, ticket_of, unit_after}
 
 -- who waits for a scope's end is a worker of the one pool that there is, or an outside caller
 abbrev pub IsHere : Party → Type 0
@@ -40,10 +40,11 @@ abbrev pub IsSend : Plan → Type 0
 IsSend (Send o) = Unit {0}
 IsSend _ = ⊥
 
--- a call that opens no scope
-abbrev pub NotOpen : Plan → Type 0
-NotOpen (Open o) = ⊥
-NotOpen _ = Unit {0}
+-- a call whose acts are all made in one drive: it opens no scope, and is no broadcast that waits
+abbrev pub IsWhole : Plan → Type 0
+IsWhole (Open o) = ⊥
+IsWhole (Gather g) = ⊥
+IsWhole _ = Unit {0}
 
 -- a spawn into a scope
 abbrev pub IsEnter : Plan → Type 0
@@ -69,12 +70,12 @@ of_scope : (c : ℕ) (k : Option TicketOf) → IsScope (scope_in k) c → HasTic
 of_scope c None a = absurd a
 of_scope c (Some u) a = by u.scope a
   where
-    by : (z : Option ScopeOf) → IsScope z c → elim z [ None ↦ u.number | Some w ↦ w.call ] ≡ c
+    by : (z : Option CoreOf) → IsScope z c → elim z [ None ↦ call_alone u | Some w ↦ w.call ] ≡ c
     by None e = absurd e
     by (Some w) e = e
 
-opens_none : (p n : Plan) → n ≡ p → NotOpen n → NotOpen p
-opens_none p n e c = subst (λ (q : Plan). NotOpen q) e c
+whole_as : (p n : Plan) → n ≡ p → IsWhole n → IsWhole p
+whole_as p n e c = subst (λ (q : Plan). IsWhole q) e c
 
 module _ {X G O F H : Type 0} where
   -- a load for whose results a call waits
@@ -101,12 +102,17 @@ module _ {X G O F H : Type 0} where
   Fits (Enter e) l k = (e.pool ≡ 0) × IsHere e.owner × IsScoped l × IsScope (scope_in k) e.call
   Fits _ l k = ⊥
 
+  -- a refused call of this plan has its load in hand again, a broadcast that waits its job
+  abbrev pub ComesBack : Plan → Option (Load X G O F H) → Option TicketOf → Type 0
+  ComesBack (Gather g) l k = IsCast l
+  ComesBack n l k = Fits n l k
+
   -- what is in hand where workers have been woken and latches set, in a call of this plan: the load was queued and the call
   -- waits, or is over; or it hands the load back
   abbrev pub Next : Plan → Hand X G O F H → Move → Type 0
-  Next p s (Stay (at.WaitForLock o)) = HasCall o.number s.call × (o.pool ≡ 0) × (s.holds ≡ true) × (s.load ≡ None) × NotOpen p
-  Next p s Back = (s.holds ≡ false) × (s.load ≡ None) × NotOpen p
-  Next p s (HandBack n) = (n ≡ p) × (s.holds ≡ false) × Fits n s.load s.call
+  Next p s (Stay (at.WaitForLock o)) = HasCall o.number s.call × (o.pool ≡ 0) × (s.holds ≡ true) × (s.load ≡ None) × IsWhole p
+  Next p s Back = (s.holds ≡ false) × (s.load ≡ None) × IsWhole p
+  Next p s (HandBack n) = (n ≡ p) × (s.holds ≡ false) × ComesBack n s.load s.call
   Next p s _ = ⊥
 
   -- what is in hand beside what the act asks
@@ -122,8 +128,8 @@ module _ {X G O F H : Type 0} where
   Holds p s (at.LockToWake k) = Next p s (finish (Caller 0) k.then)
   Holds p s (at.WakeWorker k) = Next p s (finish (Caller 0) k.then)
   Holds p s (at.UnlockWoken k) = Next p s (finish (Caller 0) k.then)
-  Holds p s (at.WaitForLock o) = (o.pool ≡ 0) × (s.holds ≡ true) × (s.load ≡ None) × NotOpen p
-  Holds p s (at.TakeResult o f) = (o.pool ≡ 0) × (s.holds ≡ true) × (s.load ≡ None) × NotOpen p
+  Holds p s (at.WaitForLock o) = (o.pool ≡ 0) × (s.holds ≡ true) × (s.load ≡ None) × IsWhole p
+  Holds p s (at.TakeResult o f) = (o.pool ≡ 0) × (s.holds ≡ true) × (s.load ≡ None) × IsWhole p
   Holds p s (at.StoreBody o e) = Next p s (Stay (at.WaitForLock o))
   Holds p s (at.LowerCount (OfPool r) b t) = Next p (record s { holds = false }) (finish (Caller 0) t)
   Holds p s (at.LowerCount (OfScope c q) b t) = IsHere q × Next p s (finish (Caller 0) t)
@@ -193,7 +199,7 @@ module _ {X G O F H : Type 0} where
   after_set_at p s h x (OfCall c) e a = next_at p s (finish (Caller 0) x.then) a
 
   -- the latch of a scope is set for who waits for its end
-  set_call_at : (p : Plan) (s : Hand X G O F H) (c : ℕ) (q : Party) (t : Then) → IsScope (scope_in s.call) c → IsHere q → Next p s (finish (Caller 0) t) → At p s (Stay (set_call c q t))
+  pub set_call_at : (p : Plan) (s : Hand X G O F H) (c : ℕ) (q : Party) (t : Then) → IsScope (scope_in s.call) c → IsHere q → Next p s (finish (Caller 0) t) → At p s (Stay (set_call c q t))
   set_call_at p s c (Worker r i) t w e a = ((e, of_scope c s.call w), a)
   set_call_at p s c (Caller n) t w e a = (of_scope c s.call w, a)
 
@@ -242,25 +248,25 @@ module _ {X G O F H : Type 0} where
   unpushed_at p _ s e a = absurd a.1.1
 
   -- the tickets of a call are made
-  grown_at : (p n : Plan) (s : Hand X G O F H) (k m : Option TicketOf) → n ≡ p → Fits n s.load s.call → s.holds ≡ true → IsSend n → GrownFor (plan_call n) s.load k → At p (record s { call = k; first = first_of (plan_call n) s.load; lent = m }) (Stay (at.LookQueue n))
-  grown_at p (Send o) s k m e f h i g = (f.0, (e, f, h, (f.0, tt, packed s.load f.2 g)))
+  grown_at : (w : ℕ) (p n : Plan) (s : Hand X G O F H) (k m : Option TicketOf) → n ≡ p → Fits n s.load s.call → s.holds ≡ true → IsSend n → GrownFor w (plan_call n) s.load k → At p (record s { call = k; first = first_of (plan_call n) s.load; lent = m }) (Stay (at.LookQueue n))
+  grown_at w p (Send o) s k m e f h i g = (f.0, (e, f, h, (f.0, tt, packed s.load f.2 g)))
     where
       same : (z : Option TicketOf) → z ≡ Some (ticket_of o.number) → z ≡ Some (ticket_of o.job)
       same z a = a ∙ ap (λ (c : ℕ). Some (ticket_of c)) f.1
 
-      packed : (l : Option (Load X G O F H)) → IsAwaited l → GrownFor o.number l k → Packed o.job l k (first_of o.number l)
+      packed : (l : Option (Load X G O F H)) → IsAwaited l → GrownFor w o.number l k → Packed o.job l k (first_of o.number l)
       packed (Some (Job j)) a b = same k b
       packed (Some (Sides x y)) a b = (same k b, same (Some (ticket_of o.number)) refl)
       packed _ a b = absurd a
-  grown_at p _ s k m e f h i g = absurd i
+  grown_at w p _ s k m e f h i g = absurd i
 
   -- the tickets were refused
   ungrown_at : (p n : Plan) (s : Hand X G O F H) (k m : Option TicketOf) → k ≡ s.call → m ≡ s.lent → At p s (Stay (undo n)) → At p (record s { call = k; lent = m }) (Stay (undo n))
   ungrown_at p n s k m e f a = subst (λ (z : Option TicketOf). At p (record s { call = k; lent = z }) (Stay (undo n))) (sym f) (subst (λ (z : Option TicketOf). At p (record s { call = z }) (Stay (undo n))) (sym e) a)
 
   -- the ticket of a scope is made, and its body begins to run
-  opened_at : (p : Plan) (s : Hand X G O F H) (o : OpenCall) (k f m : Option TicketOf) → Open o ≡ p → o.pool ≡ 0 → s.load ≡ None → s.holds ≡ true → GrownFor o.number s.load k → LentFor s.load k s.lent m → Opened p (record s { call = k; first = f; lent = m }) o.job (at.ScopeBody o)
-  opened_at p s o k f m q e l h g n = (q, refl, by k (subst (λ (z : Option (Load X G O F H)). GrownFor o.number z k) l g), subst (λ (z : Option (Load X G O F H)). LentFor z k s.lent m) l n)
+  opened_at : (w : ℕ) (p : Plan) (s : Hand X G O F H) (o : OpenCall) (k f m : Option TicketOf) → Open o ≡ p → o.pool ≡ 0 → s.load ≡ None → s.holds ≡ true → GrownFor w o.number s.load k → LentFor s.load k s.lent m → Opened p (record s { call = k; first = f; lent = m }) o.job (at.ScopeBody o)
+  opened_at w p s o k f m q e l h g n = (q, refl, by k (subst (λ (z : Option (Load X G O F H)). GrownFor w o.number z k) l g), subst (λ (z : Option (Load X G O F H)). LentFor z k s.lent m) l n)
     where
       by : (z : Option TicketOf) → IsNewScope o.number z → InBody o (record s { call = z; first = f; lent = m })
       by None a = absurd a
@@ -274,13 +280,13 @@ module _ {X G O F H : Type 0} where
       call z a = subst (λ (y : Option TicketOf). HasCall o.number y) (sym a) (sym f.1, refl, refl)
 
       by : (l : Option (Load X G O F H)) → IsAwaited l → Packed o.job l s.call s.first → Next p (record s { inlet = v; load = None; holds = unit_after l s.holds; held = b }) (Stay (at.WaitForLock o))
-      by (Some (Job j)) a c = (call s.call c, f.0, h, refl, opens_none p (Send o) q tt)
-      by (Some (Sides x y)) a c = (call s.call c.0, f.0, h, refl, opens_none p (Send o) q tt)
+      by (Some (Job j)) a c = (call s.call c, f.0, h, refl, whole_as p (Send o) q tt)
+      by (Some (Sides x y)) a c = (call s.call c.0, f.0, h, refl, whole_as p (Send o) q tt)
       by _ a c = absurd a
   pushed_at p (Detach r n) s v b e q f h k = (f.0, by s.load f.1)
     where
       by : (l : Option (Load X G O F H)) → IsDetached (detached_ticket n) l → Next p (record s { inlet = v; load = None; holds = unit_after l s.holds; held = b }) Back
-      by (Some (Detached j t)) d = (refl, refl, opens_none p (Detach r n) q tt)
+      by (Some (Detached j t)) d = (refl, refl, whole_as p (Detach r n) q tt)
       by _ d = absurd d
   pushed_at p (Open o) s v b e q f h k = absurd (none s.load f.1 k)
     where
@@ -289,7 +295,7 @@ module _ {X G O F H : Type 0} where
   pushed_at p (Enter x) s v b e q f h k = (f.0, by s.load f.2)
     where
       by : (l : Option (Load X G O F H)) → IsScoped l → Next p (record s { inlet = v; load = None; holds = unit_after l s.holds; held = b }) Back
-      by (Some (Scoped j t)) d = (h, refl, opens_none p (Enter x) q tt)
+      by (Some (Scoped j t)) d = (h, refl, whole_as p (Enter x) q tt)
       by _ d = absurd d
   pushed_at p _ s v b e q f h k = absurd f
 
@@ -299,46 +305,46 @@ module _ {X G O F H : Type 0} where
   numbered_at p _ s m e f h i = absurd i
 
   -- after each act there is what belongs to where the table leads
-  pub at_on : (p : Plan) (s t : Hand X G O F H) (h : PoolShape) (y : Place) (x : Seen) → Grown (act_of (Caller 0) y) x s t → At p s (Stay y) → At p (after (act_of (Caller 0) y) x t s) (next_of h (Caller 0) y x)
-  at_on p s t h (at.RaiseCount n) Done g a = raised_at p n s t a
-  at_on p s t h (at.RaiseCount n) x g a = unraised_at p n s t x refl a
-  at_on p s t h (at.GrowCall n) Done g a = grown_at p n s t.call t.lent a.1.0 a.1.1 a.1.2 a.1.3 g.0
-  at_on p s t h (at.GrowCall n) _ g a = ungrown_at p n s t.call t.lent g.0 g.1 (undo_at p n s a.1.0 a.1.1 (unit n a.1.3 a.1.2))
+  pub at_on : (w : ℕ) (p : Plan) (s t : Hand X G O F H) (h : PoolShape) (y : Place) (x : Seen) → Grown w (act_of (Caller 0) y) x s t → At p s (Stay y) → At p (after (act_of (Caller 0) y) x t s) (next_of h (Caller 0) y x)
+  at_on w p s t h (at.RaiseCount n) Done g a = raised_at p n s t a
+  at_on w p s t h (at.RaiseCount n) x g a = unraised_at p n s t x refl a
+  at_on w p s t h (at.GrowCall n) Done g a = grown_at w p n s t.call t.lent a.1.0 a.1.1 a.1.2 a.1.3 g.0
+  at_on w p s t h (at.GrowCall n) _ g a = ungrown_at p n s t.call t.lent g.0 g.1 (undo_at p n s a.1.0 a.1.1 (unit n a.1.3 a.1.2))
     where
       unit : (m : Plan) → IsSend m → s.holds ≡ true → s.holds ≡ has_unit m
       unit (Send o) i e = e
       unit _ i e = absurd i
-  at_on p s t h (at.GrowScope o) Done g a = opened_at p s o t.call (first_of o.number s.load) t.lent a.1.0 a.1.1 a.1.2 a.1.3 g.0 g.1
-  at_on p s t h (at.GrowScope o) _ g a = ungrown_at p (Open o) s t.call t.lent g.0 g.1 (undo_at p (Open o) s a.1.0 (a.1.1, a.1.2) a.1.3)
-  at_on p s t h (at.OpenSlot n) Done g a = numbered_at p n s t.slot a.1.0 a.1.1 a.1.2 a.1.3
-  at_on p s t h (at.OpenSlot n) _ g a = unnumbered_at p n (record s { slot = t.slot }) a.1.0 a.1.1 a.1.2 a.1.3
-  at_on p s t h (at.CloseSlot n) _ g a = unnumbered_at p n (record s { held = false }) a.1.0 a.1.1 a.1.2 a.1.3
-  at_on p s t h (at.LookQueue n) Yes g a = (a.1.3, (a.1.0, a.1.1, a.1.2))
-  at_on p s t h (at.LookQueue n) _ g a = (a.1.3, (a.1.0, a.1.1, a.1.2))
-  at_on p s t h (at.PushJob n e) Done g a = pushed_at p n s (sent (plan_job n) s.slot s.load s.inlet) false e a.1.0 a.1.1 a.1.2 a.0.2
-  at_on p s t h (at.PushJob n e) _ g a = unpushed_at p n s e a
-  at_on p s t h (at.TellNews n e) (Wakes k) g a = walk_at p s h (plan_pool n) k 0 (after_news n) a.0 a.1
-  at_on p s t h (at.TellNews n e) _ g a = a
-  at_on p s t h (at.LockToWake k) _ g a = a
-  at_on p s t h (at.WakeWorker k) Yes g a = a
-  at_on p s t h (at.WakeWorker k) _ g a = a
-  at_on p s t h (at.UnlockWoken k) _ g a = walk_at p s h k.pool k.owed (k.worker + 1) k.then a.0 a.1
-  at_on p s t h (at.WaitForLock o) _ g a = a
-  at_on p s t h (at.TakeResult o f) (Found e) g a = ((a.1.0, a.1.1), (refl, a.1.2, a.1.3))
-  at_on p s t h (at.TakeResult o f) _ g a = ((a.1.0, a.1.1), (refl, a.1.2, a.1.3))
-  at_on p s t h (at.StoreBody o e) _ g a = (a.0, (tt, a.1))
-  at_on p s t h (at.LowerCount (OfPool r) b c) Yes g a = settle_at p (record s { holds = false }) h r 0 c a.0.0 a.1
-  at_on p s t h (at.LowerCount (OfPool r) b c) _ g a = next_at p (record s { holds = false }) (finish (Caller 0) c) a.1
-  at_on p s t h (at.LowerCount (OfScope n q) b c) Yes g a = set_call_at p s n q c a.0 a.1.0 a.1.1
-  at_on p s t h (at.LowerCount (OfScope n q) b c) _ g a = next_at p s (finish (Caller 0) c) a.1.1
-  at_on p s t h (at.SetLatch x) Yes g a = (a.0.0, a.1)
-  at_on p s t h (at.SetLatch x) _ g a = after_set_at p s h x x.latch a.0.0 a.1
-  at_on p s t h (at.LockToSettle x) _ g a = a
-  at_on p s t h (at.WakeSettled x) _ g a = a
-  at_on p s t h (at.UnlockSettled x) _ g a = after_set_at p s h x x.latch a.0 a.1
-  at_on p s t h (at.SetLockLatch c n) _ g a = next_at p s (finish (Caller 0) n) a.1
-  at_on p s t h (at.LowerCount _ b c) _ g a = absurd a.0
-  at_on p s t h _ _ g a = absurd a.1
+  at_on w p s t h (at.GrowScope o) Done g a = opened_at w p s o t.call (first_of o.number s.load) t.lent a.1.0 a.1.1 a.1.2 a.1.3 g.0 g.1
+  at_on w p s t h (at.GrowScope o) _ g a = ungrown_at p (Open o) s t.call t.lent g.0 g.1 (undo_at p (Open o) s a.1.0 (a.1.1, a.1.2) a.1.3)
+  at_on w p s t h (at.OpenSlot n) Done g a = numbered_at p n s t.slot a.1.0 a.1.1 a.1.2 a.1.3
+  at_on w p s t h (at.OpenSlot n) _ g a = unnumbered_at p n (record s { slot = t.slot }) a.1.0 a.1.1 a.1.2 a.1.3
+  at_on w p s t h (at.CloseSlot n) _ g a = unnumbered_at p n (record s { held = false }) a.1.0 a.1.1 a.1.2 a.1.3
+  at_on w p s t h (at.LookQueue n) Yes g a = (a.1.3, (a.1.0, a.1.1, a.1.2))
+  at_on w p s t h (at.LookQueue n) _ g a = (a.1.3, (a.1.0, a.1.1, a.1.2))
+  at_on w p s t h (at.PushJob n e) Done g a = pushed_at p n s (sent (plan_job n) s.slot s.load s.inlet) false e a.1.0 a.1.1 a.1.2 a.0.2
+  at_on w p s t h (at.PushJob n e) _ g a = unpushed_at p n s e a
+  at_on w p s t h (at.TellNews n e) (Wakes k) g a = walk_at p s h (plan_pool n) k 0 (after_news n) a.0 a.1
+  at_on w p s t h (at.TellNews n e) _ g a = a
+  at_on w p s t h (at.LockToWake k) _ g a = a
+  at_on w p s t h (at.WakeWorker k) Yes g a = a
+  at_on w p s t h (at.WakeWorker k) _ g a = a
+  at_on w p s t h (at.UnlockWoken k) _ g a = walk_at p s h k.pool k.owed (k.worker + 1) k.then a.0 a.1
+  at_on w p s t h (at.WaitForLock o) _ g a = a
+  at_on w p s t h (at.TakeResult o f) (Found e) g a = ((a.1.0, a.1.1), (refl, a.1.2, a.1.3))
+  at_on w p s t h (at.TakeResult o f) _ g a = ((a.1.0, a.1.1), (refl, a.1.2, a.1.3))
+  at_on w p s t h (at.StoreBody o e) _ g a = (a.0, (tt, a.1))
+  at_on w p s t h (at.LowerCount (OfPool r) b c) Yes g a = settle_at p (record s { holds = false }) h r 0 c a.0.0 a.1
+  at_on w p s t h (at.LowerCount (OfPool r) b c) _ g a = next_at p (record s { holds = false }) (finish (Caller 0) c) a.1
+  at_on w p s t h (at.LowerCount (OfScope n q) b c) Yes g a = set_call_at p s n q c a.0 a.1.0 a.1.1
+  at_on w p s t h (at.LowerCount (OfScope n q) b c) _ g a = next_at p s (finish (Caller 0) c) a.1.1
+  at_on w p s t h (at.SetLatch x) Yes g a = (a.0.0, a.1)
+  at_on w p s t h (at.SetLatch x) _ g a = after_set_at p s h x x.latch a.0.0 a.1
+  at_on w p s t h (at.LockToSettle x) _ g a = a
+  at_on w p s t h (at.WakeSettled x) _ g a = a
+  at_on w p s t h (at.UnlockSettled x) _ g a = after_set_at p s h x x.latch a.0 a.1
+  at_on w p s t h (at.SetLockLatch c n) _ g a = next_at p s (finish (Caller 0) n) a.1
+  at_on w p s t h (at.LowerCount _ b c) _ g a = absurd a.0
+  at_on w p s t h _ _ g a = absurd a.1
 
   -- the laws of the performer, which is an outside caller
   pub guest_needs : (u : Visit X G O F H) (q : Party) (y : Place) → is_rest y ≡ false → (q ≡ Caller 0) × Stands (hand u) (Stay y) → Needs (act_of q y) (hand u)
@@ -350,5 +356,5 @@ module _ {X G O F H : Type 0} where
   pub guest_on : (u v : Visit X G O F H) (h : PoolShape) (q : Party) (y : Place) (x : Seen) → is_rest y ≡ false → (q ≡ Caller 0) × Stands (hand u) (Stay y) → Does (act_of q y) x u v → (q ≡ Caller 0) × Stands (hand v) (next_of h q y x)
   guest_on u v h q y x r a d =
       let own = subst (λ (z : Party). Does (act_of z y) x u v) a.0 d in
-      let on = subst (λ (z : Hand X G O F H). At a.1.0 z (next_of h (Caller 0) y x)) (sym own.0) (at_on a.1.0 (hand u) (hand v) h y x own.3 a.1.1) in
+      let on = subst (λ (z : Hand X G O F H). At a.1.0 z (next_of h (Caller 0) y x)) (sym own.0) (at_on u.shape.workers a.1.0 (hand u) (hand v) h y x own.3 a.1.1) in
       (a.0, subst (λ (z : Party). Stands (hand v) (next_of h z y x)) (sym a.0) (a.1.0, on))

@@ -1,5 +1,5 @@
 -- What an outside caller has for the time of one call, and what each act of the call does to it.
-use Rattle.std.specs.Prelude.{◌≡◌, ℕ, ◌≤◌, ◌++◌, [], ◌∷◌, List, length, Bool, true, false, if◌then◌else◌, is_some, Option, None, Some, Result}
+use Rattle.std.specs.Prelude.{◌≡◌, ◌⊎◌, ℕ, ◌≤◌, ◌++◌, [], ◌∷◌, List, length, Bool, true, false, if◌then◌else◌, is_some, Option, None, Some, Result}
 use Rattle.rayon_machine_places.specs.declared.place.Count.{Count}
 use Rattle.rayon_machine_places.specs.declared.place.Count.TheVariants.{OfPool, OfScope}
 use Rattle.rayon_machine_places.specs.declared.place.Party.{Party}
@@ -13,7 +13,7 @@ use Rattle.rayon_machine_places.specs.declared.shape.PoolShape.{PoolShape}
 use Rattle.rayon_machine_places.specs.declared.act.Act.{Act}
 use Rattle.rayon_machine_places.specs.declared.act.Act.TheVariants as acts
 use Rattle.rayon_machine_places.specs.declared.act.Seen.{Seen}
-use Rattle.rayon_machine_places.specs.declared.act.Seen.TheVariants.{Done, Refused, Missing, Found, Yes, No}
+use Rattle.rayon_machine_places.specs.declared.act.Seen.TheVariants.{Done, Refused, Missing, Found, Yes, No, Opened}
 use Rattle.rayon_drive.specs.declared.trace.Log.{Log}
 use Rattle.atomic_table.specs.Seated.{TableId}
 use Rattle.rayon_queues.specs.Deques.{Visitor, visitor}
@@ -22,23 +22,23 @@ use Rattle.rayon_atomics.specs.declared.views.Teller.{Teller}
 use Rattle.rayon_atomics.specs.declared.views.Watch.{Watch}
 use Rattle.rayon_atomics.specs.Counted.{fresh, watch}
 use Rattle.rayon_tasks.specs.Tasks.{TaskOf, WorkOf, NoJob, OneJob, OnePiece, TwoSides}
-use Rattle.rayon_tasks.specs.Tickets.{IsScopeOf, ScopeOf, TicketOf, call_in, has_core, has_lock, unscoped}
+use Rattle.rayon_tasks.specs.Tickets.{CoreOf, IsBroadcastOf, IsScopeOf, TicketOf, call_in, has_core, has_lock, unscoped}
 use Rattle.rayon_jobs.specs.Within.{Run}
 use Rattle.rayon_books.specs.Books.{Book}
 use Rattle.rayon_books.specs.declared.slot.NoOutputs.{NoOutputs}
 use Rattle.rayon_books.specs.declared.slot.Slot.{Slot}
 use Rattle.rayon_books.specs.declared.slot.Slot.TheVariants.{Open}
 use Rattle.rayon_guests.specs.declared.load.Load.{Load}
-use Rattle.rayon_guests.specs.declared.load.Load.TheVariants.{Job, Sides, Detached, Scoped}
-use Rattle.rayon_performers.specs.Hands.{Gathers, HasResult, HasTicket, is_yes}
-use Rattle.rayon_performers.specs.Marks.{GivesShare, GivesUnit, GivesUnits, IsScope, Marks, MissesShare, MissesUnit, MissesUnits, SetBy, TakesShare, TakesUnit, TakesUnits, Tally, scope_in}
-use Rattle.rayon_performers.specs.Seats.{Steps, Tells}
+use Rattle.rayon_guests.specs.declared.load.Load.TheVariants.{Cast, Job, Sides, Detached, Scoped}
+use Rattle.rayon_shared.specs.AtHand.{Gathers, HasResult, HasTicket, is_yes}
+use Rattle.rayon_shared.specs.Marks.{GivesShare, GivesShares, GivesUnit, GivesUnits, IsScope, Marks, MissesShare, MissesUnit, MissesUnits, SetBy, TakesShare, TakesShares, TakesUnit, TakesUnits, Tally, has_book, scope_in}
+use Rattle.rayon_shared.specs.Seats.{Steps, Tells}
 
 -- what an outside caller has: which terminate count the pool has; the pool's shape; its pass of the injector; what its call
 -- queues, until it is queued; the ticket of its call, or of the scope that it spawns into, where two sides are sent that of
 -- the first one's cell, and of a scope the share that its body is lent; the number that it opened last in a scope's book,
--- and that book, while it holds it; the results that were found in the cells of the two, and of a scope that has ended its
--- outputs, or why it has none; whether it holds a unit of the terminate count; its seat of that count, and the one by which
+-- and that book, while it holds it; the results that were found in the cells of the two, and of a scope or a broadcast that
+-- has ended what its book gave; whether it holds a unit of the terminate count; its seat of that count, and the one by which
 -- it set a latch last; the seat by which it stepped on a scope's count last; the seat of the counters by which it told news
 -- last; and what it did
 pub record Visit (X G O F H : Type 0) : Type 0 where
@@ -114,6 +114,11 @@ abbrev pub IsNewScope : ℕ → Option TicketOf → Type 0
 IsNewScope c None = ⊥
 IsNewScope c (Some u) = IsScopeOf (Caller 0) c u
 
+-- the ticket is that of a new broadcast of this call, an outside caller's, to so many workers. None of its pieces has ended
+abbrev pub IsNewCast : ℕ → ℕ → Option TicketOf → Type 0
+IsNewCast w c None = ⊥
+IsNewCast w c (Some u) = IsBroadcastOf (Caller 0) c w u
+
 -- the book of this scope is held, where the load has a number of one
 abbrev pub HasBook : Option ℕ → Option TicketOf → Bool → Type 0
 HasBook None k b = Unit {0}
@@ -147,6 +152,12 @@ IsAnswer Yes = Unit {0}
 IsAnswer No = Unit {0}
 IsAnswer _ = ⊥
 
+-- numbers of a scope's book were opened, or refused
+abbrev pub IsOpening : Seen → Type 0
+IsOpening (Opened n) = Unit {0}
+IsOpening Refused = Unit {0}
+IsOpening _ = ⊥
+
 -- what an act of a caller can see. What News and Take see is said with what they find
 abbrev pub Sees : Act → Seen → Type 0
 Sees (acts.Raise c n) x = IsTried x
@@ -166,6 +177,8 @@ Sees (acts.LockSet c) x = x ≡ Done
 Sees (acts.RaiseAll c) x = IsTried x
 Sees (acts.PushCast c) x = IsTried x
 Sees (acts.LowerAll c) x = IsAnswer x
+Sees (acts.SlotAll c) x = IsOpening x
+Sees (acts.SlotUndoAll c) x = x ≡ Done
 Sees _ x = Unit {0}
 
 -- what the seat knows by which news was told, if there is one
@@ -188,16 +201,31 @@ abbrev pub Lowers : Seen → Bool → Teller → Teller → Type 0
 Lowers Yes b v w = GivesUnit true true v w × (b ≡ true)
 Lowers _ b v w = GivesUnit true false v w × (b ≡ true)
 
--- so many units are taken in one step of a pool's count, or were refused. No caller takes so many shares of another count
+-- so many units are taken in one step of a pool's count, or were refused. A scope's count has a seat of its own, and no caller
+-- takes so many shares of another count
 abbrev pub RaisesAll : Count → ℕ → Seen → Teller → Teller → Type 0
 RaisesAll (OfPool p) n Done v w = TakesUnits n v w
 RaisesAll (OfPool p) n _ v w = MissesUnits v w
+RaisesAll (OfScope c o) n x v w = w ≡ v
 RaisesAll _ n x v w = ⊥
 
 -- so many are given back in one step, which were the pool's last or not
 abbrev pub LowersAll : Count → ℕ → Seen → Teller → Teller → Type 0
 LowersAll (OfPool p) n x v w = GivesUnits n (is_yes x) v w
+LowersAll (OfScope c o) n x v w = w ≡ v
 LowersAll _ n x v w = ⊥
+
+-- so many shares of this scope's count are taken in one step, by a seat that is made for it, or were refused. A step of another
+-- count leaves the seat of such a step as it was
+abbrev pub SharesAll : Count → ℕ → Seen → Option CoreOf → Option Tally → Option Tally → Type 0
+SharesAll (OfScope c o) n Done k v w = TakesShares n k w
+SharesAll (OfScope c o) n _ k v w = MissesShare k w
+SharesAll _ n x k v w = w ≡ v
+
+-- so many are given back in one step, by such a seat, which were the last or not
+abbrev pub SharesNone : Count → ℕ → Seen → Option CoreOf → Option Tally → Option Tally → Type 0
+SharesNone (OfScope c o) n x k v w = GivesShares n k (is_yes x) w
+SharesNone _ n x k v w = w ≡ v
 
 module _ {G O F : Type 0} where
   -- a result of the first side is found only where two sides were sent
@@ -211,10 +239,10 @@ module _ {G O F : Type 0} where
   Takes Missing f d r = (d ≡ None) × FirstFound f r
   Takes _ f d r = ⊥
 
-  -- of a scope what its book gave is found, and nothing of a cell; of any other call what its cells gave
-  abbrev pub TakesOf : Option ScopeOf → Seen → Option TicketOf → Option (Result (List (Run G O F)) (NoOutputs F)) → Option (Run G O F) → Option (Run G O F) → Option (Result (List (Run G O F)) (NoOutputs F)) → Type 0
-  TakesOf None x f old d r o = Takes x f d r × (o ≡ old)
-  TakesOf (Some k) x f old d r o = (d ≡ None) × (r ≡ None) × Gathers x o
+  -- a call with a book finds what that gave, and nothing in a cell. Any other call finds what its cells gave
+  abbrev pub TakesOf : Bool → Seen → Option TicketOf → Option (Result (List (Run G O F)) (NoOutputs F)) → Option (Run G O F) → Option (Run G O F) → Option (Result (List (Run G O F)) (NoOutputs F)) → Type 0
+  TakesOf false x f old d r o = Takes x f d r × (o ≡ old)
+  TakesOf true x f old d r o = (d ≡ None) × (r ≡ None) × Gathers x o
 
   -- the book has one open slot more, at its end, and this is its number
   abbrev pub Opens : Option (Book (Run G O F)) → ℕ → Type 0
@@ -239,12 +267,14 @@ module _ {X : Type 0} where
   scoped_task j u n m = record { work = OneJob j; injected = true; ticket = record u { number = n; slot = m } }
 
 module _ {X G O F H : Type 0} where
-  -- the task of a load in the call of this name, which has this number in the book of its scope, if it is of one
+  -- the task of a load in the call of this name, which has this number in the book of its scope, if it is of one. Of a broadcast
+  -- a piece stands for it
   abbrev pub task_in : ℕ → ℕ → Load X G O F H → TaskOf X
   task_in n m (Job j) = record { work = OneJob j; injected = true; ticket = ticket_of n }
   task_in n m (Sides a b) = record { work = TwoSides a b (ticket_of n); injected = true; ticket = ticket_of n }
   task_in n m (Detached j k) = record { work = OneJob j; injected = true; ticket = k }
   task_in n m (Scoped j k) = record { work = OneJob j; injected = true; ticket = record k { slot = m } }
+  task_in n m (Cast j) = record { work = OnePiece; injected = false; ticket = ticket_of n }
 
   -- the load of a task with one job and this ticket: a scope's has no number until it is queued
   abbrev pub load_with : X → TicketOf → Load X G O F H
@@ -276,6 +306,12 @@ module _ {X G O F H : Type 0} where
   Packed n (Some (Sides a b)) k f = (k ≡ Some (ticket_of n)) × (f ≡ Some (ticket_of n))
   Packed n (Some (Detached j t)) k f = (t.detached ≡ true) × (t.scope ≡ None)
   Packed n (Some (Scoped j t)) k f = (is_some t.scope ≡ true) × (t.slot ≡ 0)
+  Packed n (Some (Cast j)) k f = ⊥
+
+  -- the load is the job of a broadcast that waits
+  abbrev pub IsCast : Option (Load X G O F H) → Type 0
+  IsCast (Some (Cast j)) = Unit {0}
+  IsCast _ = ⊥
 
   abbrev pub hand : Visit X G O F H → Hand X G O F H
   hand s = record { inlet = s.inlet; load = s.load; call = s.call; first = s.first; lent = s.lent; slot = s.slot; held = is_some s.book; holds = s.holds }
@@ -303,35 +339,44 @@ module _ {X G O F H : Type 0} where
   Needs _ s = ⊥
 
   -- what an act leaves in hand, where t tells which tickets were made and which number was opened: a unit is taken or given
-  -- back, the load is pushed, a book is held or left
+  -- back, the load is pushed, a book is held or left. A push of pieces leaves the load that t has
   abbrev pub after : Act → Seen → Hand X G O F H → Hand X G O F H → Hand X G O F H
   after (acts.Raise (OfPool p) n) x t s = record s { holds = if_done x true s.holds }
   after (acts.Grow c) x t s = record s { call = t.call; first = if_done x (first_of c s.load) s.first; lent = t.lent }
   after (acts.Slot c n) x t s = record s { slot = t.slot; held = if_done x true s.held }
   after (acts.SlotUndo c n) x t s = record s { held = false }
   after (acts.PushInj p n b) x t s = record s { inlet = if_done x (sent n s.slot s.load s.inlet) s.inlet; load = if_done x None s.load; holds = if_done x (unit_after s.load s.holds) s.holds; held = if_done x false s.held }
+  after (acts.PushCast c) x t s = record s { load = t.load }
   after (acts.Lower (OfPool p) b) x t s = record s { holds = false }
   after _ x t s = s
 
-  -- the ticket of a call with this load was made: without a load that of a scope
-  abbrev pub GrownFor : ℕ → Option (Load X G O F H) → Option TicketOf → Type 0
-  GrownFor c None k = IsNewScope c k
-  GrownFor c (Some l) k = k ≡ Some (ticket_of c)
+  -- the ticket of a call with this load was made, in a pool of so many workers. Without a load it is a scope's. A job of which
+  -- each worker gets a piece has that of a broadcast
+  abbrev pub GrownFor : ℕ → ℕ → Option (Load X G O F H) → Option TicketOf → Type 0
+  GrownFor w c None k = IsNewScope c k
+  GrownFor w c (Some (Cast j)) k = IsNewCast w c k
+  GrownFor w c (Some l) k = k ≡ Some (ticket_of c)
 
   -- a scope's body is lent a share of its ticket
   abbrev pub LentFor : Option (Load X G O F H) → Option TicketOf → Option TicketOf → Option TicketOf → Type 0
   LentFor None k old l = l ≡ k
   LentFor (Some w) k old l = l ≡ old
 
-  -- which tickets were made
-  abbrev pub Grown : Act → Seen → Hand X G O F H → Hand X G O F H → Type 0
-  Grown (acts.Grow c) Done s t = GrownFor c s.load t.call × LentFor s.load t.call s.lent t.lent
-  Grown (acts.Grow c) _ s t = (t.call ≡ s.call) × (t.lent ≡ s.lent)
-  Grown _ x s t = Unit {0}
+  -- a push of pieces leaves the load as it was; or it takes a job of which each worker gets a piece
+  abbrev pub Dealt : Seen → Option (Load X G O F H) → Option (Load X G O F H) → Type 0
+  Dealt Done k l = (l ≡ k) ⊎ (IsCast k × (l ≡ None))
+  Dealt _ k l = l ≡ k
+
+  -- what tickets an act made, in a pool of so many workers, and what a push left of the load
+  abbrev pub Grown : ℕ → Act → Seen → Hand X G O F H → Hand X G O F H → Type 0
+  Grown w (acts.Grow c) Done s t = GrownFor w c s.load t.call × LentFor s.load t.call s.lent t.lent
+  Grown w (acts.Grow c) _ s t = (t.call ≡ s.call) × (t.lent ≡ s.lent)
+  Grown w (acts.PushCast c) x s t = Dealt x s.load t.load
+  Grown w _ x s t = Unit {0}
 
   -- what it finds
   abbrev pub Finds : Act → Seen → Visit X G O F H → Visit X G O F H → Type 0
-  Finds (acts.Take c) x s t = TakesOf (scope_in s.call) x s.first s.outcome t.done t.first_done t.outcome
+  Finds (acts.Take c) x s t = TakesOf (has_book s.call) x s.first s.outcome t.done t.first_done t.outcome
   Finds _ x s t = (t.done ≡ s.done) × (t.first_done ≡ s.first_done) × (t.outcome ≡ s.outcome)
 
   -- what becomes of the book of a scope that it holds: a number is opened there, or was refused; or the book is left
@@ -366,6 +411,8 @@ module _ {X G O F H : Type 0} where
   Marked (acts.LockWait c) x s t = t.marks ≡ s.marks
   Marked (acts.Take c) x s t = t.marks ≡ s.marks
   Marked (acts.LockSet c) x s t = t.marks ≡ s.marks
+  Marked (acts.SlotAll c) x s t = t.marks ≡ s.marks
+  Marked (acts.SlotUndoAll c) x s t = t.marks ≡ s.marks
   Marked (acts.RaiseAll c) x s t = (t.marks.set ≡ s.marks.set) × RaisesAll c.count c.workers x s.marks.count t.marks.count
   Marked (acts.PushCast c) x s t = t.marks ≡ s.marks
   Marked (acts.LowerAll c) x s t = (t.marks.set ≡ s.marks.set) × LowersAll c.count c.workers x s.marks.count t.marks.count
@@ -376,6 +423,8 @@ module _ {X G O F H : Type 0} where
   Shares (acts.Raise (OfScope c o) n) Done s t = TakesShare (scope_in s.call) t.tally
   Shares (acts.Raise (OfScope c o) n) _ s t = MissesShare (scope_in s.call) t.tally
   Shares (acts.Lower (OfScope c o) b) x s t = GivesShare (scope_in s.call) (is_yes x) t.tally
+  Shares (acts.RaiseAll c) x s t = SharesAll c.count c.workers x (scope_in s.call) s.tally t.tally
+  Shares (acts.LowerAll c) x s t = SharesNone c.count c.workers x (scope_in s.call) s.tally t.tally
   Shares _ x s t = t.tally ≡ s.tally
 
   -- and to the seat by which news is told
@@ -385,4 +434,4 @@ module _ {X G O F H : Type 0} where
 
   -- what each act of a caller does
   abbrev pub Does : Act → Seen → Visit X G O F H → Visit X G O F H → Type 0
-  Does a x s t = (hand t ≡ after a x (hand t) (hand s)) × (t.shape ≡ s.shape) × (t.count ≡ s.count) × Grown a x (hand s) (hand t) × Finds a x s t × Numbers a x s t × Marked a x s t × Shares a x s t × Told a x s t × Sees a x
+  Does a x s t = (hand t ≡ after a x (hand t) (hand s)) × (t.shape ≡ s.shape) × (t.count ≡ s.count) × Grown s.shape.workers a x (hand s) (hand t) × Finds a x s t × Numbers a x s t × Marked a x s t × Shares a x s t × Told a x s t × Sees a x

@@ -7,8 +7,8 @@ ghost use Rattle.rayon_machine_places.specs.declared.place.Mark.TheVariants.{Que
 ghost use Rattle.rayon_machine_places.specs.declared.place.Move.TheVariants.{Back, HandAllBack, Mark, Stay};
 ghost use Rattle.rayon_machine_places.specs.declared.place.Place.TheVariants as at;
 ghost use Rattle.rayon_machine_places.specs.Places.{call_all, ends_count};
-ghost use Rattle.rayon_performers.specs.Hands.{answer};
-ghost use Rattle.rayon_performers.specs.Marks.{GivesUnits, KeepsAll, MissesUnits, TakesUnits};
+ghost use Rattle.rayon_shared.specs.AtHand.{answer};
+ghost use Rattle.rayon_shared.specs.Marks.{GivesUnits, KeepsAll, MissesUnits, TakesUnits};
 ghost use Rattle.rayon_guests.specs.Casts.{Casts, CastsNone, HandsBack, Made, Same, cast_of, pieces_in};
 ghost use Rattle.rayon_guests.specs.Paths.{CallerGoes};
 
@@ -170,9 +170,10 @@ impl<'a, J: JobKind> Guest<'a, J> {
     }
 
     // Calls each worker, from the first one upward.
-    fn call_all<R: Wait>(&mut self, rt: &R, cast: Pieces)
+    pub(crate) fn call_all<R: Wait>(&mut self, rt: &R, cast: Pieces)
         requires idle { (self.old.load ≡ None) × (self.old.holds ≡ false) }
-        requires cast { cast ≡ cast_of cast.first self.old.shape.workers }
+        requires pool { cast.pool ≡ 0 }
+        requires all { cast.workers ≡ self.old.shape.workers }
         ensures path { CallerGoes (Mark (call_all self.old.shape cast) cast Queued) self.old self.new Back }
         ensures keeps { Same self.old self.new × (self.new.marks.count ≡ self.old.marks.count) }
     {

@@ -11,10 +11,10 @@ ghost use Rattle.rayon_machine_places.specs.declared.place.Share.TheVariants.{Po
 ghost use Rattle.rayon_machine_places.specs.declared.place.Then.TheVariants.{Resume};
 ghost use Rattle.rayon_machine_places.specs.declared.act.Seen.TheVariants as saw;
 ghost use Rattle.rayon_machine_places.specs.Places.{plan_job};
-ghost use Rattle.rayon_performers.specs.Hands.{answer};
-ghost use Rattle.rayon_performers.specs.Marks.{GivesUnit, SetBy, scope_in, tally_in};
+ghost use Rattle.rayon_shared.specs.AtHand.{answer};
+ghost use Rattle.rayon_shared.specs.Marks.{GivesUnit, SetBy, has_book, scope_in, tally_in};
 ghost use Rattle.rayon_guests.specs.Paths.{CallerGoes};
-ghost use Rattle.rayon_performers.specs.Pools.{shape_of};
+ghost use Rattle.rayon_shared.specs.Pools.{shape_of};
 ghost use Rattle.rayon_guests.specs.Visiting.{At, Fits, Keeps, KeepsCall, Kept, Stands, guest_needs, guest_on, guest_stays};
 ghost use Rattle.rayon_guests.specs.Visits.{Does, GrownFor, HasCall, HasLatch, HasLoad, IsAnswer, IsLoadOf, IsTried, LentFor, Needs, NoneSuch, Packed, Raises, Takes, TakesOf, TellsBy, first_of, hand, if_done, opening, sent, task_in, ticket_of, unit_after, with_pushed};
 ghost use Rattle.rayon_queues.specs.Deques.{visitor};
@@ -32,10 +32,10 @@ use rayon_machine_places::place::{
     Count, Ending, Entry, Latch, Move, OpenCall, Party, Place, Plan, Share, Then,
 };
 use rayon_machine_places::shape::PoolShape;
-use rayon_performers::{PoolHold, Registry, set_latch};
 use rayon_queues::InjectorPass;
+use rayon_shared::{PoolHold, Registry, set_latch};
 use rayon_sleep::counters::CounterSeat;
-use rayon_tasks::{Pair, ScopeCore, Task, Ticket, Work, task_of_job, task_of_pair, task_parts};
+use rayon_tasks::{CallCore, Pair, Task, Ticket, Work, task_of_job, task_of_pair, task_parts};
 use rayon_words::Refusal;
 use std::alloc::Global;
 use std::marker::Model;
@@ -86,7 +86,7 @@ impl<'a, J: JobKind> Model for Guest<'a, J> {
     ghost use Rattle.std.specs.Coded.{codes};
     ghost use Rattle.rayon_atomics.specs.Tallies.{teller};
     ghost use Rattle.rayon_drive.specs.contracts.trace.Log as logs;
-    ghost use Rattle.rayon_performers.specs.Marks.{seat_in, tally_in};
+    ghost use Rattle.rayon_shared.specs.Marks.{seat_in, tally_in};
     ghost use Rattle.rayon_words.specs.declared.refusal.Refusal.TheVariants.{Ended, Full, NoRoom};
     ghost use Rattle.rayon_guests.specs.Visits.{Visit, watch_in};
 
@@ -251,7 +251,7 @@ impl<'a, J: JobKind> Guest<'a, J> {
     }
 
     // Takes a unit of the terminate count for the call.
-    fn raise<R: Wait>(&mut self, rt: &R) -> Seen
+    pub(crate) fn raise<R: Wait>(&mut self, rt: &R) -> Seen
         requires { self.old.holds ≡ false }
         ensures same { self.new ≡ record self.old { holds = if_done result true self.old.holds; marks = record { set = self.old.marks.set; count = self.new.marks.count } } }
         ensures step { Raises result self.old.holds self.old.marks.count self.new.marks.count }
@@ -270,10 +270,10 @@ impl<'a, J: JobKind> Guest<'a, J> {
     }
 
     // Makes the tickets of a call of this name: one, and where two sides are sent another for the first one's result. A
-    // call without a load opens a scope, of whose ticket its body is lent a share.
+    // call without a load opens a scope, of whose ticket its body is lent a share. A broadcast has its own way.
     fn grow(&mut self, name: u64) -> Seen
         ensures same { self.new ≡ record self.old { call = self.new.call; first = if_done result (first_of name self.old.load) self.old.first; lent = self.new.lent } }
-        ensures made { elim result [ saw.Done ↦ GrownFor name self.old.load self.new.call × LentFor self.old.load self.new.call self.old.lent self.new.lent | _ ↦ (self.new.call ≡ self.old.call) × (self.new.lent ≡ self.old.lent) ] }
+        ensures made { elim result [ saw.Done ↦ GrownFor self.old.shape.workers name self.old.load self.new.call × LentFor self.old.load self.new.call self.old.lent self.new.lent | _ ↦ (self.new.call ≡ self.old.call) × (self.new.lent ≡ self.old.lent) ] }
         ensures seen { IsTried result }
     {
         self.refusal = Refusal::NoRoom;
@@ -283,6 +283,8 @@ impl<'a, J: JobKind> Guest<'a, J> {
         match &self.load {
             None => self.grow_scope(alloc, name),
             Some(Load::Sides(..)) => self.grow_call(alloc, name, true),
+            // its ticket is made with its pieces
+            Some(Load::Cast(_)) => Seen::Refused,
             Some(_) => self.grow_call(alloc, name, false),
         }
     }
@@ -356,6 +358,7 @@ impl<'a, J: JobKind> Guest<'a, J> {
         match load {
             Load::Detached(job, ticket) => Ok(task_of_job(job, true, ticket)),
             Load::Scoped(job, ticket) => Ok(task_of_job(job, true, ticket.numbered(self.slot))),
+            Load::Cast(_) => unreachable!(),
             Load::Job(job) => match share_of(&self.call) {
                 Some(share) => Ok(task_of_job(job, true, share)),
                 None => Err(Load::Job(job)),
@@ -404,10 +407,10 @@ impl<'a, J: JobKind> Guest<'a, J> {
         Seen::Done
     }
 
-    // Takes what the cells of the call hold, and of a scope's call what the scope's book gives.
+    // Takes what the cells of the call hold, and of the call of a scope or of a broadcast what its book gives.
     fn take<R: Wait>(&mut self, rt: &R) -> Seen
         ensures same { self.new ≡ record self.old { done = self.new.done; first_done = self.new.first_done; outcome = self.new.outcome } }
-        ensures found { TakesOf (scope_in self.old.call) result self.old.first self.old.outcome self.new.done self.new.first_done self.new.outcome }
+        ensures found { TakesOf (has_book self.old.call) result self.old.first self.old.outcome self.new.done self.new.first_done self.new.outcome }
     {
         let Some(outcome) = self.outcome_of_call(rt) else {
             return self.take_cells(rt);

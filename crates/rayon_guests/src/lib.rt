@@ -2,10 +2,12 @@
 #![tactic(auto)]
 
 mod cast;
+mod gather;
 mod guest;
 mod load;
 mod paused;
 mod scope;
+mod scope_cast;
 
 pub use guest::Guest;
 pub use load::Load;

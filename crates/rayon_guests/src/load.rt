@@ -13,4 +13,6 @@ pub enum Load<J: JobKind> {
     Detached(J, Ticket<J>),
     /// A job of a scope, with its ticket, which has no number of the scope's book yet.
     Scoped(J, Ticket<J>),
+    /// A job of which each worker gets a piece: the call waits for the results of all pieces.
+    Cast(J),
 }

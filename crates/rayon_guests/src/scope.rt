@@ -6,7 +6,7 @@ ghost use Rattle.rayon_machine_places.specs.declared.place.Move.TheVariants.{Sta
 ghost use Rattle.rayon_machine_places.specs.declared.place.Place.TheVariants as at;
 ghost use Rattle.rayon_machine_places.specs.declared.place.Plan.TheVariants.{Enter};
 ghost use Rattle.rayon_machine_places.specs.declared.act.Seen.TheVariants as saw;
-ghost use Rattle.rayon_performers.specs.Marks.{GivesShare, IsScope, MissesShare, TakesShare, scope_in};
+ghost use Rattle.rayon_shared.specs.Marks.{GivesShare, IsScope, MissesShare, TakesShare, has_book, scope_in};
 ghost use Rattle.rayon_guests.specs.Paths.{CallerGoes, Enters, EntersHere, EntersNone, EntersNoneHere};
 ghost use Rattle.rayon_guests.specs.Visiting.{InBody, IsHere, Keeps};
 ghost use Rattle.rayon_guests.specs.Visits.{IsNewScope, IsTried, Opens, OwnedBy, call_of, hand, if_done, opening, scoped_task, with_pushed};
@@ -17,7 +17,7 @@ use rayon_books::Outcome;
 use rayon_jobs::JobKind;
 use rayon_machine_places::act::Seen;
 use rayon_machine_places::place::{Ending, Entry, Move, OpenCall, Place, Plan};
-use rayon_tasks::{ScopeCore, Ticket};
+use rayon_tasks::{CallCore, Ticket};
 use rayon_words::Refusal;
 use std::alloc::Global;
 use std::mem;
@@ -103,7 +103,7 @@ impl<'a, J: JobKind> Guest<'a, J> {
     }
 
     // This ticket stands where that of the call does, and that where this one did.
-    fn exchange_call(&mut self, ticket: &mut Option<Ticket<J>>)
+    pub(crate) fn exchange_call(&mut self, ticket: &mut Option<Ticket<J>>)
         ensures guest { self.new ≡ record self.old { call = ticket.old } }
         ensures ticket { ticket.new ≡ self.old.call }
     {
@@ -245,30 +245,33 @@ impl<'a, J: JobKind> Guest<'a, J> {
         ensures seen { result ≡ saw.Done }
     {
         if ending == Ending::Fault {
-            let scope = scope_of(&self.call);
-            let mut book = scope.book().hold(rt);
-            book.keep_fault();
-            let _taken = scope.book().leave(rt, book);
+            scope_of(&self.call)
+                .book()
+                .with(rt, |book| book.keep_fault());
         }
         Seen::Done
     }
 
-    // What the book of the scope gives whose call it is. None where that is no scope's.
+    // What the book of the scope or the broadcast gives whose call it is. None where the call has no book.
     pub(crate) fn outcome_of_call<R: Wait>(&self, rt: &R) -> Option<Outcome<J>>
-        ensures { is_some result ≡ is_some (scope_in self.now.call) }
+        ensures { is_some result ≡ has_book self.now.call }
     {
         let call = self.call.as_ref()?;
-        let scope = call.scope()?;
-        let mut book = scope.book().hold(rt);
-        let outcome = Outcome::of_book(&mut book);
-        let _taken = scope.book().leave(rt, book);
-        Some(outcome)
+        if let Some(scope) = call.scope() {
+            return Some(scope.book().with(rt, |book| Outcome::of_book(book)));
+        }
+        let broadcast = call.broadcast()?;
+        Some(
+            broadcast
+                .book()
+                .with(rt, |book| Outcome::of_runs(book.runs())),
+        )
     }
 }
 
 // The call of this name to the one pool that there is.
 #[inline(always)]
-fn open_call(name: u64) -> OpenCall
+pub(crate) fn open_call(name: u64) -> OpenCall
     ensures { result ≡ call_of name }
 {
     OpenCall {
@@ -279,7 +282,7 @@ fn open_call(name: u64) -> OpenCall
 }
 
 // The scope that a ticket is of, which is in hand.
-fn scope_of<J: JobKind>(ticket: &Option<Ticket<J>>) -> &ScopeCore<J>
+pub(crate) fn scope_of<J: JobKind>(ticket: &Option<Ticket<J>>) -> &CallCore<J>
     requires { IsSome (scope_in ticket.now) }
     ensures { Some result.now ≡ scope_in ticket.now }
 {

@@ -5,7 +5,7 @@ use Rattle.rayon_guests.proofs.Casts.{called, closes}
 use Rattle.rayon_guests.proofs.guest.Guest.call_all.Goals as goal
 
 pub returns-clause-path : goal.returns-clause-path
-returns-clause-path g c = called c.args.self.now.shape c.args.cast c.args.self.now c.drive.new.self c.requires.cast c.in-Back.ensures.path
+returns-clause-path g c = called c.args.self.now.shape c.args.cast c.args.self.now c.drive.new.self c.requires.pool c.requires.all c.in-Back.ensures.path
 
 pub returns-clause-keeps : goal.returns-clause-keeps
 returns-clause-keeps g c = closes c.args.self.now.shape (Stay (at.LockToWake (record { pool = 0; owed = c.args.cast.workers; worker = 0; then = Called }))) Back c.args.self.now c.drive.new.self tt c.in-Back.ensures.path

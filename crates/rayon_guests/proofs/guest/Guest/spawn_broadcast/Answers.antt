@@ -1,7 +1,7 @@
 use Rattle.rayon_machine_places.specs.declared.place.Place.TheVariants as at
 use Rattle.rayon_machine_places.specs.declared.place.Move.TheVariants.{Stay}
 use Rattle.std.proofs.Common.{inr, subst}
-use Rattle.rayon_performers.specs.Marks.{KeepsAll}
+use Rattle.rayon_shared.specs.Marks.{KeepsAll}
 use Rattle.rayon_guests.specs.Casts.{HandsBack}
 use Rattle.rayon_guests.proofs.guest.Guest.spawn_broadcast.Goals as goal
 

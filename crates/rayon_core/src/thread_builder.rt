@@ -4,8 +4,8 @@ ghost use Rattle.std.specs.Prelude.{◌≡◌, ◌<◌, IfOk, IfErr, option_map}
 ghost use Rattle.std.specs.String.{string_bytes};
 
 use rayon_jobs::JobKind;
-use rayon_performers::{Registry, WorkerKit};
 use rayon_registry::{Job, PoolRef, SharedFaults, WorkerId, faults_of, shared_of};
+use rayon_shared::{Registry, WorkerKit};
 use rayon_tasks::Task;
 use rayon_words::Refusal;
 use std::alloc::Global;

@@ -2,8 +2,8 @@
 ghost use Rattle.std.specs.Prelude.{◌≡◌, length};
 
 use rayon_jobs::JobKind;
-use rayon_performers::PoolHold;
 use rayon_registry::{PoolRef, end_pool};
+use rayon_shared::PoolHold;
 use std::marker::Model;
 use std::ops::Deref;
 use std::sync::Wait;

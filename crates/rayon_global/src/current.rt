@@ -7,7 +7,7 @@ ghost use Rattle.rayon_machine_places.specs.declared.place.Party.TheVariants.{Wo
 ghost use Rattle.rayon_machine_places.specs.declared.place.Plan.TheVariants.{Detach, Feed, Here};
 ghost use Rattle.rayon_performers.specs.Calls.{own_join};
 ghost use Rattle.rayon_performers.specs.Fifos.{Fed, feeding, token_task};
-ghost use Rattle.rayon_performers.specs.Marks.{TakesUnit};
+ghost use Rattle.rayon_shared.specs.Marks.{TakesUnit};
 ghost use Rattle.rayon_performers.specs.Spawns.{Spawned, detached_task};
 ghost use Rattle.rayon_registry.specs.Acts.{CallMade, HandedBack, Installed, Joined};
 ghost use Rattle.std.specs.Prelude.{◌≡◌, ◌⊎◌, ℕ, [], ◌∷◌, ◌++◌, ◌-◌, ◌<◌, ◌≤◌, Option, Result, Ok, Err, IfOk, IfErr, Some, None, true, false};
@@ -185,21 +185,21 @@ impl<J: JobKind, R: Waits<J>> Current<J, R> for WorkerThread<J> {
 
     ghost kept = { λ v w. Kept v w };
 
-    ghost joined = { λ e v w. Joined v.shape (Worker 0 v.seat) e v.acts w.acts };
+    ghost joined = { λ e v w. Joined v.shape (Worker 0 v.id.index) e v.acts w.acts };
 
-    ghost join_handed_back = { λ v w. HandedBack v.shape (Worker 0 v.seat) own_join v.acts w.acts };
+    ghost join_handed_back = { λ v w. HandedBack v.shape (Worker 0 v.id.index) own_join v.acts w.acts };
 
-    ghost installed = { λ e v w. Installed v.shape (Worker 0 v.seat) e v.acts w.acts };
+    ghost installed = { λ e v w. Installed v.shape (Worker 0 v.id.index) e v.acts w.acts };
 
-    ghost install_handed_back = { λ v w. HandedBack v.shape (Worker 0 v.seat) (Here 0) v.acts w.acts };
+    ghost install_handed_back = { λ v w. HandedBack v.shape (Worker 0 v.id.index) (Here 0) v.acts w.acts };
 
-    ghost spawned = { λ v job w. ((n : ℕ) × Spawned v.shape (Worker 0 v.seat) n v.acts w.acts × (w ≡ record v { pushed = v.pushed ++ detached_task job false (Worker 0 v.seat) n ∷ []; left = v.left ++ detached_task job false (Worker 0 v.seat) n ∷ []; count = w.count; acts = w.acts })) × TakesUnit true v.count w.count };
+    ghost spawned = { λ v job w. ((n : ℕ) × Spawned v.shape (Worker 0 v.id.index) n v.acts w.acts × (w ≡ record v { pushed = v.pushed ++ detached_task job false (Worker 0 v.id.index) n ∷ []; left = v.left ++ detached_task job false (Worker 0 v.id.index) n ∷ []; count = w.count; acts = w.acts })) × TakesUnit true v.count w.count };
 
-    ghost spawn_handed_back = { λ v w. HandedBack v.shape (Worker 0 v.seat) (Detach 0) v.acts w.acts };
+    ghost spawn_handed_back = { λ v w. HandedBack v.shape (Worker 0 v.id.index) (Detach 0) v.acts w.acts };
 
-    ghost fed = { λ v job w. ((n : ℕ) × (k : ℕ) × Fed v.shape (Worker 0 v.seat) n k v.acts w.acts × (w ≡ record v { pushed = v.pushed ++ token_task (Worker 0 v.seat) k ∷ []; left = v.left ++ token_task (Worker 0 v.seat) k ∷ []; count = w.count; acts = w.acts })) × TakesUnit true v.count w.count };
+    ghost fed = { λ v job w. ((n : ℕ) × (k : ℕ) × Fed v.shape (Worker 0 v.id.index) n k v.acts w.acts × (w ≡ record v { pushed = v.pushed ++ token_task (Worker 0 v.id.index) k ∷ []; left = v.left ++ token_task (Worker 0 v.id.index) k ∷ []; count = w.count; acts = w.acts })) × TakesUnit true v.count w.count };
 
-    ghost feed_handed_back = { λ v w. (k : ℕ) × HandedBack v.shape (Worker 0 v.seat) (λ j. Feed (feeding j k)) v.acts w.acts };
+    ghost feed_handed_back = { λ v w. (k : ℕ) × HandedBack v.shape (Worker 0 v.id.index) (λ j. Feed (feeding j k)) v.acts w.acts };
 
     fn join_here(
         &mut self,

@@ -126,17 +126,17 @@ impl<J: JobKind, R: Waits<J>> Scopes<J, R> for WorkerThread<J> {
 
     ghost too_deep = { λ w. w.levels ≡ 0 };
 
-    ghost lent = { λ v w. (suc w.levels ≡ v.levels) × (w.id ≡ v.id) × (w.seat ≡ v.seat) × (w.shape ≡ v.shape) };
+    ghost lent = { λ v w. (suc w.levels ≡ v.levels) × (w.id ≡ v.id) × (w.shape ≡ v.shape) };
 
     ghost same = { λ v w. SameWorker v w };
 
     ghost kept = { λ v w. Kept v w };
 
-    ghost scoped = { λ e v w. Scoped v.shape (Worker 0 v.seat) e v.acts w.acts };
+    ghost scoped = { λ e v w. Scoped v.shape (Worker 0 v.id.index) e v.acts w.acts };
 
-    ghost not_opened = { λ v w. HandedBack v.shape (Worker 0 v.seat) (λ n. plans.Open (own_call n)) v.acts w.acts };
+    ghost not_opened = { λ v w. HandedBack v.shape (Worker 0 v.id.index) (λ n. plans.Open (own_call n)) v.acts w.acts };
 
-    ghost opens = { λ v o w. (suc w.levels ≡ v.levels) × (w.id ≡ v.id) × (w.seat ≡ v.seat) × (w.shape ≡ v.shape) × (w.units ≡ v.units + 1) × (⟦<WorkerThread<J> as Opens<J>>⟧.opened_levels o ≡ v.levels) × ⟦<WorkerThread<J> as Opens<J>>⟧.opens v o };
+    ghost opens = { λ v o w. (suc w.levels ≡ v.levels) × (w.id ≡ v.id) × (w.shape ≡ v.shape) × (w.units ≡ v.units + 1) × (⟦<WorkerThread<J> as Opens<J>>⟧.opened_levels o ≡ v.levels) × ⟦<WorkerThread<J> as Opens<J>>⟧.opens v o };
 
     ghost stays = { λ v. Prim.search rules };
 
@@ -317,13 +317,13 @@ pub trait SpawnsInto<J: JobKind, R>: Scopes<J, R> {
 }
 
 impl<J: JobKind, R: Waits<J>> SpawnsInto<J, R> for WorkerThread<J> {
-    ghost entered = { λ v s job n w. (w.id.pool ≡ s.pool) × ((u : TicketOf) × (k : ℕ) × (s.ticket ≡ Some u) × Entered v.shape (Worker 0 v.seat) s.call s.owner k v.acts w.acts × (w ≡ record v { pushed = v.pushed ++ entered_task job u k n ∷ []; left = v.left ++ entered_task job u k n ∷ []; acts = w.acts })) };
+    ghost entered = { λ v s job n w. (w.id.pool ≡ s.pool) × ((u : TicketOf) × (k : ℕ) × (s.ticket ≡ Some u) × Entered v.shape (Worker 0 v.id.index) s.call s.owner k v.acts w.acts × (w ≡ record v { pushed = v.pushed ++ entered_task job u k n ∷ []; left = v.left ++ entered_task job u k n ∷ []; acts = w.acts })) };
 
-    ghost entered_in_order = { λ v s w. (w.id.pool ≡ s.pool) × ((u : TicketOf) × (k : ℕ) × (m : ℕ) × (s.ticket ≡ Some u) × EnteredInOrder v.shape (Worker 0 v.seat) (entry_of s.call s.owner k) m v.acts w.acts × (w ≡ record v { pushed = v.pushed ++ scope_token u v.seat m ∷ []; left = v.left ++ scope_token u v.seat m ∷ []; acts = w.acts })) };
+    ghost entered_in_order = { λ v s w. (w.id.pool ≡ s.pool) × ((u : TicketOf) × (k : ℕ) × (m : ℕ) × (s.ticket ≡ Some u) × EnteredInOrder v.shape (Worker 0 v.id.index) (entry_of s.call s.owner k) m v.acts w.acts × (w ≡ record v { pushed = v.pushed ++ scope_token u v.id.index m ∷ []; left = v.left ++ scope_token u v.id.index m ∷ []; acts = w.acts })) };
 
-    ghost not_entered = { λ v s w. HandedBack v.shape (Worker 0 v.seat) (entering s.call s.owner) v.acts w.acts × (w ≡ record v { acts = w.acts }) };
+    ghost not_entered = { λ v s w. HandedBack v.shape (Worker 0 v.id.index) (entering s.call s.owner) v.acts w.acts × (w ≡ record v { acts = w.acts }) };
 
-    ghost not_entered_in_order = { λ v s w. ((m : ℕ) × HandedBack v.shape (Worker 0 v.seat) (λ k. plans.Feed (into (entry_of s.call s.owner k) m)) v.acts w.acts) × (w ≡ record v { acts = w.acts }) };
+    ghost not_entered_in_order = { λ v s w. ((m : ℕ) × HandedBack v.shape (Worker 0 v.id.index) (λ k. plans.Feed (into (entry_of s.call s.owner k) m)) v.acts w.acts) × (w ≡ record v { acts = w.acts }) };
 
     ghost same_scope = { λ s t. t ≡ record s { receipts = t.receipts } };
 

@@ -1,3 +1,4 @@
 mod Installs
 mod Joins
 mod Made
+mod Receipts

@@ -1,15 +1,17 @@
 -- The acts of a performer's path are those of a path, whatever they did.
-use Rattle.std.proofs.Common.{◌≡◌, ◌⊎◌, inl, inr, Bool, true, false, true≢false, ℕ, [], ◌∷◌, Option, None, Some, Result, Ok, Err, MatchOption, MatchResult, IfErr, IfOk, refl, sym, subst, ap, ◌∙◌}
+use Rattle.std.proofs.Common.{◌≡◌, ◌⊎◌, inl, inr, Bool, true, false, true≢false, ℕ, List, [], ◌∷◌, Option, None, Some, Result, Ok, Err, MatchOption, MatchResult, IfErr, IfOk, refl, sym, subst, ap, ◌∙◌}
 use Rattle.rayon_machine_places.specs.declared.place.Count.TheVariants.{OfPool}
 use Rattle.std.specs.Result.{IsErr}
 use Rattle.rayon_words.specs.declared.refusal.CallError.{CallError}
+use Rattle.rayon_words.specs.declared.refusal.Refusal.{Refusal}
 use Rattle.rayon_machine_places.specs.declared.place.Ending.{Ending}
 use Rattle.rayon_machine_places.specs.declared.place.Entry.{Entry}
 use Rattle.rayon_machine_places.specs.declared.place.Ending.TheVariants.{Fine}
 use Rattle.rayon_machine_places.specs.declared.place.JobKind.{JobKind}
 use Rattle.rayon_machine_places.specs.declared.place.JobKind.TheVariants.{BodyOf, Detached, Direct, PieceOf, Scoped, Stored, TokenOf, WholeOf}
 use Rattle.rayon_machine_places.specs.declared.place.OpenCall.{OpenCall}
-use Rattle.rayon_machine_places.specs.declared.place.Plan.TheVariants.{Detach, Feed, Open}
+use Rattle.rayon_machine_places.specs.declared.place.Mark.TheVariants.{Dealt, Numbered}
+use Rattle.rayon_machine_places.specs.declared.place.Plan.TheVariants.{Detach, Feed, Gather, Open}
 use Rattle.rayon_machine_places.specs.declared.place.Share.TheVariants.{OfJob}
 use Rattle.rayon_machine_places.specs.declared.place.Then.TheVariants.{Answers, Resume}
 use Rattle.rayon_machine_places.specs.declared.place.Party.{Party}
@@ -23,28 +25,32 @@ use Rattle.rayon_machine_places.specs.declared.place.Taken.TheVariants.{Plain, T
 use Rattle.rayon_machine_places.specs.declared.place.Target.{Target}
 use Rattle.rayon_machine_places.specs.declared.place.Target.TheVariants.{Termination, Answer}
 use Rattle.rayon_machine_places.specs.declared.shape.PoolShape.{PoolShape}
-use Rattle.rayon_machine_places.specs.Places.{fresh, goes_on, taken_number, undo}
+use Rattle.rayon_machine_places.specs.Places.{fresh, gather_all, goes_on, taken_number, undo}
 use Rattle.rayon_drive.specs.declared.trace.Log.{Log}
 use Rattle.rayon_drive.specs.Traces.{AddsRun}
 use Rattle.rayon_drive.specs.Paths.{Traced}
-use Rattle.rayon_drive.proofs.Traced.{traced_as}
+use Rattle.rayon_drive.proofs.Traced.{traced_as, traced_then}
+use Rattle.rayon_tasks.specs.Names.{IsRow}
 use Rattle.rayon_tasks.specs.Tasks.{TaskOf, taken_in}
-use Rattle.rayon_tasks.specs.Tickets.{ScopeOf, TicketOf, call_in, kind_alone, kind_in}
+use Rattle.rayon_tasks.specs.Tickets.{IsBroadcastOf, CoreOf, TicketOf, call_alone, call_in, kind_alone, kind_in}
 use Rattle.rayon_performers.specs.Begins.{begins_as}
+use Rattle.rayon_performers.specs.Broadcasts.{dealt, gathering}
 use Rattle.rayon_performers.specs.Calls.{own_call}
-use Rattle.rayon_performers.specs.Casts.{Cast, Casts, CastsNone, casting}
+use Rattle.rayon_performers.specs.Casts.{Cast, CastInto, Casts, CastsNone}
+use Rattle.rayon_shared.specs.Casts.{cast_into, casting}
 use Rattle.rayon_performers.specs.Fifos.{Fed, FeedsList, FeedsNone, feeding}
 use Rattle.rayon_jobs.specs.Endings.{ending_of}
 use Rattle.rayon_jobs.specs.Within.{Run}
-use Rattle.rayon_performers.specs.Hands.{Hands, HasResult, HasTicket}
-use Rattle.rayon_performers.specs.Marks.{IsScope, scope_in}
+use Rattle.rayon_performers.specs.Hands.{Hands}
+use Rattle.rayon_shared.specs.AtHand.{HasResult, HasTicket}
+use Rattle.rayon_shared.specs.Marks.{IsBroadcast, IsScope, broadcast_in, scope_in}
 use Rattle.rayon_performers.specs.Paths.{WorkerGoes}
-use Rattle.rayon_performers.specs.Scopes.{Entered, EnteredInOrder, Enters, EntersList, EntersNoList, EntersNone, answering, entering, entry_of, into}
+use Rattle.rayon_performers.specs.Scopes.{Entered, EnteredInOrder, Enters, EntersForAll, EntersForNone, EntersList, EntersNoList, EntersNone, answering, entering, entry_of, into}
 use Rattle.rayon_performers.specs.Spawns.{CanClose, ClosesRun, Spawned, Spawns, SpawnsNone, with_units}
 use Rattle.rayon_performers.specs.Stands.{Stands}
 use Rattle.rayon_performers.specs.Waits.{Waited, units_after}
 use Rattle.rayon_performers.proofs.Stretches.{So, traced}
-use Rattle.rayon_registry.specs.Acts.{CallMade, CastBack, Closes, Follows, HandedBack, HasRun, Lowered, ScopeOpened, Unlisted, Worked, resumed, wait_end}
+use Rattle.rayon_registry.specs.Acts.{CallMade, CastBack, Closes, Follows, GatherBack, GatherLeft, GatherOpened, Gathered, HandedBack, HasRun, Lay, Lowered, PiecesBack, ScopeOpened, Unlisted, Worked, WorkedAround, resumed, wait_end}
 use Rattle.rayon_registry.specs.Worker.{AfterWait, Worker as WorkerValue}
 
 module _ {X G O F : Type 0} (h : PoolShape) (i : ℕ) (m : Move) (s t : Hands X G O F) where
@@ -116,12 +122,42 @@ module _ {X G O F : Type 0} (n : ℕ) (s t : Hands X G O F) where
   unentered_in_order r c o k (inl e) = inl (ap (λ (z : Hands X G O F). z.trace) e)
   unentered_in_order r c o k (inr d) = inr (n, traced s.shape s.index (Stay (at.RaiseCount (Feed (into (entry_of c o n) k)))) (answering r s) (answering r t) (HandBack (Feed (into (entry_of c o n) k))) d)
 
+  -- a broadcast into a scope, whose pieces have numbers from this one on
+  pub entered_for_all : (r : Option TicketOf) (e : Entry) (w k : ℕ) → EntersForAll r e w k s t → CastInto s.shape (Worker 0 s.index) (cast_into e w) k s.trace t.trace
+  entered_for_all r e w k d =
+      let c = cast_into e w in
+      let pushes = Mark (at.PushForAll c) c (Numbered k) in
+      (d.0.trace, traced s.shape s.index (Stay (at.RaiseForAll c)) (answering r s) d.0 pushes d.1, traced s.shape s.index pushes d.0 (answering r t) Back d.2)
+
+  pub unentered_for_all : (r : Option TicketOf) (c : ℕ) (o : Party) (w : ℕ) → EntersForNone r (entry_of c o n) w s t → PiecesBack s.shape (Worker 0 s.index) (λ j. cast_into (entry_of c o j) w) s.trace t.trace
+  unentered_for_all r c o w (inl e) = inl (ap (λ (z : Hands X G O F). z.trace) e)
+  unentered_for_all r c o w (inr (inl d)) = inr (n, inl (traced s.shape s.index (Stay (at.RaiseForAll (cast_into (entry_of c o n) w))) (answering r s) (answering r t) (HandAllBack (cast_into (entry_of c o n) w)) d))
+  unentered_for_all r c o w (inr (inr d)) = inr (n, inr (traced s.shape s.index (Stay (at.RaiseForAll (cast_into (entry_of c o n) w))) (answering r s) (answering r t) Back d))
+
+  pub entered_for_all_so : {A B : Type 0} (r : Result A B) (k : A → ℕ) (u : Option TicketOf) (c : ℕ) (o : Party) → MatchResult r (λ x. EntersForAll u (entry_of c o n) s.shape.workers (k x) s t) (λ _. EntersForNone u (entry_of c o n) s.shape.workers s t)
+      → IfOk r (λ x. (a : ℕ) × CastInto s.shape (Worker 0 s.index) (cast_into (entry_of c o a) s.shape.workers) (k x) s.trace t.trace) × IfErr r (λ _. PiecesBack s.shape (Worker 0 s.index) (λ a. cast_into (entry_of c o a) s.shape.workers) s.trace t.trace)
+  entered_for_all_so (Ok x) k u c o d = ((n, entered_for_all u (entry_of c o n) s.shape.workers (k x) d), tt)
+  entered_for_all_so (Err e) k u c o d = (tt, unentered_for_all u c o s.shape.workers d)
+
   -- a scope was opened, or not
   pub scope_opened : WorkerGoes (Stay (at.RaiseCount (Open (own_call n)))) s t (StartRun (at.ScopeBody (own_call n)) n) → ScopeOpened s.shape (Worker 0 s.index) n s.trace t.trace
   scope_opened d = traced s.shape s.index (Stay (at.RaiseCount (Open (own_call n)))) s t (StartRun (at.ScopeBody (own_call n)) n) d
 
   pub scope_refused : WorkerGoes (Stay (at.RaiseCount (Open (own_call n)))) s t (HandBack (Open (own_call n))) → HandedBack s.shape (Worker 0 s.index) (λ j. Open (own_call j)) s.trace t.trace
   scope_refused d = inr (n, traced s.shape s.index (Stay (at.RaiseCount (Open (own_call n)))) s t (HandBack (Open (own_call n))) d)
+
+  -- a broadcast that waits was opened, whose pieces have the row of names that belongs to its name; or it was not
+  pub gather_opened : (a : ℕ) → IsRow s.shape.workers n (Some a) → WorkerGoes (Stay (at.RaiseCount (Gather (gathering s.index n a s.shape.workers)))) s t (Mark (gather_all s.shape (own_call n)) (dealt s.index n a s.shape.workers) Dealt) → GatherOpened s.shape s.index n s.trace t.trace
+  gather_opened a row d = (a, row, traced s.shape s.index (Stay (at.RaiseCount (Gather (gathering s.index n a s.shape.workers)))) s t (Mark (gather_all s.shape (own_call n)) (dealt s.index n a s.shape.workers) Dealt) d)
+
+  pub gather_refused : (a : ℕ) → IsRow s.shape.workers n (Some a) → WorkerGoes (Stay (at.RaiseCount (Gather (gathering s.index n a s.shape.workers)))) s t (HandBack (Gather (gathering s.index n a s.shape.workers))) → GatherBack s.shape s.index s.trace t.trace
+  gather_refused a row d = inr (n, a, row, traced s.shape s.index (Stay (at.RaiseCount (Gather (gathering s.index n a s.shape.workers)))) s t (HandBack (Gather (gathering s.index n a s.shape.workers))) d)
+
+  pub gather_so : {A B : Type 0} (a : ℕ) (r : Result A B) (k : A → TicketOf) → IsRow s.shape.workers n (Some a) → IfOk r (λ c. IsBroadcastOf (Worker 0 s.index) n s.shape.workers (k c))
+      → MatchResult r (λ _. WorkerGoes (Stay (at.RaiseCount (Gather (gathering s.index n a s.shape.workers)))) s t (Mark (gather_all s.shape (own_call n)) (dealt s.index n a s.shape.workers) Dealt)) (λ _. WorkerGoes (Stay (at.RaiseCount (Gather (gathering s.index n a s.shape.workers)))) s t (HandBack (Gather (gathering s.index n a s.shape.workers))))
+      → IfOk r (λ c. GatherOpened s.shape s.index (k c).number s.trace t.trace) × IfErr r (λ _. GatherBack s.shape s.index s.trace t.trace)
+  gather_so a (Ok c) k row is d = (subst (λ (z : ℕ). GatherOpened s.shape s.index z s.trace t.trace) (sym (ap (λ (z : TicketOf). z.number) is.1)) (gather_opened a row d), tt)
+  gather_so a (Err e) k row is d = (tt, gather_refused a row d)
 
   -- a task of this name is added to the own FIFO list, or not
   pub listed : (k : ℕ) → WorkerGoes (Stay (at.AddToFifo (feeding n k))) s t Back → Traced s.shape (Worker 0 s.index) (Stay (at.AddToFifo (feeding n k))) s.trace t.trace Back
@@ -144,12 +180,13 @@ module _ {X G O F : Type 0} (n : ℕ) (s t : Hands X G O F) where
 
 -- a job that a worker took has a run
 pub has_run : (t : TicketOf) → HasRun (kind_in t)
-has_run t = by t.scope t.detached
+has_run t = by t.scope t.broadcast t.detached
   where
-    by : (s : Option ScopeOf) (b : Bool) → HasRun (elim s [ None ↦ elim b [ true ↦ Detached 0 | false ↦ Stored t.number t.owner ] | Some k ↦ Scoped k.call t.owner ])
-    by None true = tt
-    by None false = tt
-    by (Some k) b = tt
+    by : (s : Option CoreOf) (k : Option CoreOf) (b : Bool) → HasRun (elim s [ None ↦ elim k [ None ↦ elim b [ true ↦ Detached 0 | false ↦ Stored t.number t.owner ] | Some c ↦ PieceOf c.call t.owner ] | Some c ↦ Scoped c.call t.owner ])
+    by None None true = tt
+    by None None false = tt
+    by None (Some c) b = tt
+    by (Some c) k b = tt
 
 -- the pool of a detached job is the own one
 abbrev pool_in : JobKind → ℕ
@@ -157,31 +194,41 @@ pool_in (Detached p) = p
 pool_in _ = 0
 
 pub own_pool : (k : JobKind) (t : TicketOf) (p : ℕ) → k ≡ kind_in t → k ≡ Detached p → p ≡ 0
-own_pool k t p e f = by t.scope t.detached (subst (λ (z : JobKind). z ≡ Detached p) e f)
+own_pool k t p e f = by t.scope t.broadcast t.detached (subst (λ (z : JobKind). z ≡ Detached p) e f)
   where
-    by : (s : Option ScopeOf) (b : Bool) → elim s [ None ↦ elim b [ true ↦ Detached 0 | false ↦ Stored t.number t.owner ] | Some c ↦ Scoped c.call t.owner ] ≡ Detached p → p ≡ 0
-    by None true g = sym (ap pool_in g)
-    by None false g = sym (ap pool_in g)
-    by (Some c) b g = sym (ap pool_in g)
+    by : (s : Option CoreOf) (k : Option CoreOf) (b : Bool) → elim s [ None ↦ elim k [ None ↦ elim b [ true ↦ Detached 0 | false ↦ Stored t.number t.owner ] | Some c ↦ PieceOf c.call t.owner ] | Some c ↦ Scoped c.call t.owner ] ≡ Detached p → p ≡ 0
+    by None None true g = sym (ap pool_in g)
+    by None None false g = sym (ap pool_in g)
+    by None (Some c) b g = sym (ap pool_in g)
+    by (Some c) k b g = sym (ap pool_in g)
 
 -- what the end of a run asks, of a job that was taken: its ticket and its result are in hand
 pub can_close : {X G O F : Type 0} (k : JobKind) (t : TicketOf) (r : Run G O F) (s : Hands X G O F) → k ≡ kind_in t → ((p : ℕ) → k ≡ Detached p → ⊥) → s.reply ≡ Some t → s.done ≡ Some r → CanClose k (ending_of r.answer) s
-can_close {X} {G} {O} {F} k t r s e n a b = by t.scope t.detached refl refl
+can_close {X} {G} {O} {F} k t r s e n a b = by t.scope t.broadcast t.detached refl refl refl
   where
     here : JobKind → Type 0
     here z = CanClose z (ending_of r.answer) s
 
-    by : (q : Option ScopeOf) (d : Bool) → t.scope ≡ q → t.detached ≡ d → CanClose k (ending_of r.answer) s
-    by None true f g =
-        let is : kind_in t ≡ Detached 0 = subst (λ (z : Option ScopeOf). elim z [ None ↦ kind_alone t | Some c ↦ Scoped c.call t.owner ] ≡ Detached 0) (sym f) (subst (λ (z : Bool). elim z [ true ↦ Detached 0 | false ↦ Stored t.number t.owner ] ≡ Detached 0) (sym g) refl) in
+    alone : Option CoreOf → JobKind
+    alone z = elim z [ None ↦ elim t.detached [ true ↦ Detached 0 | false ↦ Stored t.number t.owner ] | Some c ↦ PieceOf c.call t.owner ]
+
+    result : HasResult s.done (Some (ending_of r.answer))
+    result = subst (λ (z : Option (Run G O F)). HasResult z (Some (ending_of r.answer))) (sym b) refl
+
+    by : (q : Option CoreOf) (l : Option CoreOf) (d : Bool) → t.scope ≡ q → t.broadcast ≡ l → t.detached ≡ d → CanClose k (ending_of r.answer) s
+    by None None true f h g =
+        let is : kind_in t ≡ Detached 0 = subst (λ (z : Option CoreOf). elim z [ None ↦ kind_alone t | Some c ↦ Scoped c.call t.owner ] ≡ Detached 0) (sym f) (subst (λ (z : Option CoreOf). alone z ≡ Detached 0) (sym h) (subst (λ (z : Bool). elim z [ true ↦ Detached 0 | false ↦ Stored t.number t.owner ] ≡ Detached 0) (sym g) refl)) in
         absurd (n 0 (e ∙ is))
-    by None false f g =
-        let is : kind_in t ≡ Stored t.number t.owner = subst (λ (z : Option ScopeOf). elim z [ None ↦ kind_alone t | Some c ↦ Scoped c.call t.owner ] ≡ Stored t.number t.owner) (sym f) (subst (λ (z : Bool). elim z [ true ↦ Detached 0 | false ↦ Stored t.number t.owner ] ≡ Stored t.number t.owner) (sym g) refl) in
-        let mine : call_in t ≡ t.number = subst (λ (z : Option ScopeOf). elim z [ None ↦ t.number | Some c ↦ c.call ] ≡ t.number) (sym f) refl in
-        subst here (sym (e ∙ is)) (subst (λ (z : Option TicketOf). HasTicket z (Some t.number)) (sym a) mine, subst (λ (z : Option (Run G O F)). HasResult z (Some (ending_of r.answer))) (sym b) refl)
-    by (Some c) d f g =
-        let is : kind_in t ≡ Scoped c.call t.owner = subst (λ (z : Option ScopeOf). elim z [ None ↦ kind_alone t | Some k ↦ Scoped k.call t.owner ] ≡ Scoped c.call t.owner) (sym f) refl in
-        subst here (sym (e ∙ is)) (subst (λ (z : Option TicketOf). IsScope (scope_in z) c.call) (sym a) (subst (λ (z : Option ScopeOf). IsScope z c.call) (sym f) refl), subst (λ (z : Option (Run G O F)). HasResult z (Some (ending_of r.answer))) (sym b) refl)
+    by None None false f h g =
+        let is : kind_in t ≡ Stored t.number t.owner = subst (λ (z : Option CoreOf). elim z [ None ↦ kind_alone t | Some c ↦ Scoped c.call t.owner ] ≡ Stored t.number t.owner) (sym f) (subst (λ (z : Option CoreOf). alone z ≡ Stored t.number t.owner) (sym h) (subst (λ (z : Bool). elim z [ true ↦ Detached 0 | false ↦ Stored t.number t.owner ] ≡ Stored t.number t.owner) (sym g) refl)) in
+        let mine : call_in t ≡ t.number = subst (λ (z : Option CoreOf). elim z [ None ↦ call_alone t | Some c ↦ c.call ] ≡ t.number) (sym f) (subst (λ (z : Option CoreOf). elim z [ None ↦ t.number | Some c ↦ c.call ] ≡ t.number) (sym h) refl) in
+        subst here (sym (e ∙ is)) (subst (λ (z : Option TicketOf). HasTicket z (Some t.number)) (sym a) mine, result)
+    by None (Some c) d f h g =
+        let is : kind_in t ≡ PieceOf c.call t.owner = subst (λ (z : Option CoreOf). elim z [ None ↦ kind_alone t | Some k ↦ Scoped k.call t.owner ] ≡ PieceOf c.call t.owner) (sym f) (subst (λ (z : Option CoreOf). alone z ≡ PieceOf c.call t.owner) (sym h) refl) in
+        subst here (sym (e ∙ is)) (subst (λ (z : Option TicketOf). IsBroadcast (broadcast_in z) c.call) (sym a) (subst (λ (z : Option CoreOf). IsBroadcast (elim z [ None ↦ t.broadcast | Some k ↦ None ]) c.call) (sym f) (subst (λ (z : Option CoreOf). IsBroadcast z c.call) (sym h) refl)), result)
+    by (Some c) l d f h g =
+        let is : kind_in t ≡ Scoped c.call t.owner = subst (λ (z : Option CoreOf). elim z [ None ↦ kind_alone t | Some k ↦ Scoped k.call t.owner ] ≡ Scoped c.call t.owner) (sym f) refl in
+        subst here (sym (e ∙ is)) (subst (λ (z : Option TicketOf). IsScope (scope_in z) c.call) (sym a) (subst (λ (z : Option CoreOf). IsScope z c.call) (sym f) refl), result)
 
 -- the acts of a run's end, said of equal kinds and endings
 pub closes_so : (h : PoolShape) (q : Party) (t r : ℕ) (k o : JobKind) (e f : Ending) (v w : Log) → t ≡ r → k ≡ o → e ≡ f → Closes h q t k e v w → Closes h q r o f v w
@@ -197,6 +244,14 @@ made_fine {O} {F} {B} P Q R r x e p = subst (λ (z : Result O (CallError F B)). 
 pub made_fault : {O F B : Type 0} (P Q R : Type 0) (r : Result O (CallError F B)) (f : F) → r ≡ Err (CallError.Fault f) → Q → CallMade P Q R r
 made_fault {O} {F} {B} P Q R r f e q = subst (λ (z : Result O (CallError F B)). CallMade P Q R z) (sym e) q
 
+-- a call that was not refused has made the same acts, whatever else it answers
+pub made_either : {O F B : Type 0} (P R : Type 0) (r : Result O (CallError F B)) → ((e : Refusal) (b : B) → r ≡ Err (CallError.Refused e b) → ⊥) → P → CallMade P P R r
+made_either P R (Ok x) n p = p
+made_either P R (Err (CallError.Fault f)) n p = p
+made_either P R (Err (CallError.Refused e b)) n p = absurd (n e b refl)
+made_either P R (Err CallError.Foreign) n p = p
+made_either P R (Err CallError.Missing) n p = p
+
 -- what holds of either answer holds of another answer of the same kind
 pub matched_ok : {A B C D : Type 0} (P Q : Type 0) (r : Result A B) (q : Result C D) (x : A) (y : C) → r ≡ Ok x → q ≡ Ok y → MatchResult r (λ _. P) (λ _. Q) → MatchResult q (λ _. P) (λ _. Q)
 matched_ok {A} {B} {C} {D} P Q r q x y e f d =
@@ -209,6 +264,20 @@ matched_err {A} {B} {C} {D} P Q r q x y e f d =
 -- the last stretch
 pub last : (h : PoolShape) (q : Party) (m : Move) (v w : Log) (n : Move) → Traced h q m v w n → Worked h q m v w n
 last h q m v w n a = ([], a)
+
+-- a stretch more before acts with runs between
+pub worked_then : (h : PoolShape) (q : Party) (m : Move) (v x : Log) (k : Move) (w : Log) (n : Move) → Traced h q m v x k → Worked h q k x w n → Worked h q m v w n
+worked_then h q m v x k w n a c = by c.0 c.1
+  where
+    by : (rs : List Lay) → WorkedAround h q k x rs w n → Worked h q m v w n
+    by [] b = ([], traced_then h q m v x k w n a b)
+    by (r ∷ rs) b = (r ∷ rs, (b.0, b.1, traced_then h q m v x k b.0 r.begins a b.2, b.3, b.4))
+
+-- a broadcast that waits was opened, and went on to its end
+pub gathered : (h : PoolShape) (i n : ℕ) (v x w : Log) → GatherOpened h i n v x → GatherLeft h i n x w → Gathered h i v w
+gathered h i n v x w a b =
+    let c = dealt i n a.0 h.workers in
+    (n, a.0, a.1, worked_then h (Worker 0 i) (Stay (at.RaiseCount (Gather (gathering i n a.0 h.workers)))) v x (Mark (gather_all h (own_call n)) c Dealt) w Back a.2 (b c))
 
 -- the frame above which a wait's task begins
 pub above : (g : Target) (f p : Place) (r : Move) → r ≡ Enter f p → Waited g r → r ≡ Enter (at.ProbeWorking (fresh g)) p
@@ -232,9 +301,9 @@ has_ended g (Mark p c m) a n = absurd a
 has_ended g (HandAllBack c) a n = absurd a
 
 -- what a wait leaves of the worker value where it has ended: the units are those after its last move
-pub after_wait : {T : Type 0} (k : Target) (m : Move) (v w : WorkerValue T) → m ≡ wait_end k → w.id ≡ v.id → w.levels ≡ v.levels → w.units ≡ units_after m v.units → w.seat ≡ v.seat → w.shape ≡ v.shape → AfterWait k v w
-after_wait {T} Termination m v w e i l u s h = (i, l, subst (λ (z : Move). w.units ≡ units_after z v.units) e u, s, h)
-after_wait {T} (Answer o f) m v w e i l u s h = (i, l, subst (λ (z : Move). w.units ≡ units_after z v.units) e u, s, h)
+pub after_wait : {T : Type 0} (k : Target) (m : Move) (v w : WorkerValue T) → m ≡ wait_end k → w.id ≡ v.id → w.levels ≡ v.levels → w.units ≡ units_after m v.units → w.shape ≡ v.shape → AfterWait k v w
+after_wait {T} Termination m v w e i l u h = (i, l, subst (λ (z : Move). w.units ≡ units_after z v.units) e u, h)
+after_wait {T} (Answer o f) m v w e i l u h = (i, l, subst (λ (z : Move). w.units ≡ units_after z v.units) e u, h)
 
 module _ {X G O F : Type 0} where
   -- a worker that has stopped has seen the latch set

@@ -8,25 +8,30 @@ use Rattle.rayon_machine_places.specs.declared.place.JobKind.{JobKind}
 use Rattle.rayon_machine_places.specs.declared.place.JobKind.TheVariants.{Direct, TokenOf, WholeOf}
 use Rattle.rayon_machine_places.specs.declared.place.OpenCall.{OpenCall}
 use Rattle.rayon_machine_places.specs.declared.place.Plan.{Plan}
-use Rattle.rayon_machine_places.specs.declared.place.Plan.TheVariants.{Feed, Here, Open}
+use Rattle.rayon_machine_places.specs.declared.place.Plan.TheVariants.{Feed, Gather, Here, Open}
 use Rattle.rayon_machine_places.specs.declared.place.Share.TheVariants.{OfJob}
 use Rattle.rayon_machine_places.specs.declared.place.Then.TheVariants.{Answers, Ran as RanSo}
+use Rattle.rayon_machine_places.specs.declared.place.Mark.TheVariants.{Dealt}
 use Rattle.rayon_machine_places.specs.declared.place.Party.{Party}
+use Rattle.rayon_machine_places.specs.declared.place.Party.TheVariants.{Worker}
+use Rattle.rayon_machine_places.specs.declared.place.Pieces.{Pieces}
 use Rattle.rayon_machine_places.specs.declared.place.Move.{Move}
-use Rattle.rayon_machine_places.specs.declared.place.Move.TheVariants.{Stay, Enter, StartRun, Back, HandBack, HandAllBack, HandIn, Discard}
+use Rattle.rayon_machine_places.specs.declared.place.Move.TheVariants.{Stay, Enter, StartRun, Back, HandBack, HandAllBack, HandIn, Discard, Mark}
 use Rattle.rayon_machine_places.specs.declared.shape.PoolShape.{PoolShape}
 use Rattle.rayon_machine_places.specs.declared.place.Place.{Place}
 use Rattle.rayon_machine_places.specs.declared.place.Place.TheVariants.{AddToFifo, AtOnce, BeginHere, FirstSide, LowerCount, RaiseCount, RaiseForAll, Run, ScopeBody, Stopped}
 use Rattle.rayon_machine_places.specs.declared.place.Target.{Target}
 use Rattle.rayon_machine_places.specs.declared.place.Target.TheVariants.{Termination, Answer}
-use Rattle.rayon_machine_places.specs.Places.{goes_on, undo}
+use Rattle.rayon_machine_places.specs.Places.{gather_all, goes_on, undo}
 use Rattle.rayon_drive.specs.declared.trace.Log.{Log}
 use Rattle.rayon_drive.specs.Traces.{AddsRun}
 use Rattle.rayon_drive.specs.Paths.{Traced}
+use Rattle.rayon_performers.specs.Broadcasts.{dealt, gathering}
 use Rattle.rayon_performers.specs.Calls.{own_call, own_join}
-use Rattle.rayon_performers.specs.Casts.{casting}
+use Rattle.rayon_shared.specs.Casts.{casting}
 use Rattle.rayon_performers.specs.Fifos.{feeding}
 use Rattle.rayon_performers.specs.Spawns.{closing}
+use Rattle.rayon_tasks.specs.Names.{IsRow}
 
 -- what lay above a frame of a program: the move by which it began; where that beginning led, to the run of a job that was in
 -- no FIFO list, to that of the job that a token stands for, or nowhere, where a token's list was empty; how the run ended; and the
@@ -138,10 +143,31 @@ Installed h q e v w = (n : ℕ) × (x : Log) × (y : Log) × (z : Log) × Traced
 abbrev pub HandedBack : PoolShape → Party → (ℕ → Plan) → Log → Log → Type 0
 HandedBack h q plan v w = (w ≡ v) ⊎ ((n : ℕ) × Traced h q (Stay (RaiseCount (plan n))) v w (HandBack (plan n)))
 
--- a detached broadcast was handed back: before its first act, or from there to where its pieces are; where their units were
--- given back and were the pool's last, the workers' terminate latches are set
+-- the pieces of a broadcast that waits for nothing were handed back: before its first act, or from there to where they are;
+-- where their shares of a count were given back and were the last, the latches are set that wait for it
+abbrev pub PiecesBack : PoolShape → Party → (ℕ → Pieces) → Log → Log → Type 0
+PiecesBack h q pieces v w = (w ≡ v) ⊎ ((n : ℕ) × (Traced h q (Stay (RaiseForAll (pieces n))) v w (HandAllBack (pieces n)) ⊎ Traced h q (Stay (RaiseForAll (pieces n))) v w Back))
+
+-- so was a detached broadcast
 abbrev pub CastBack : PoolShape → Party → Log → Log → Type 0
-CastBack h q v w = (w ≡ v) ⊎ ((n : ℕ) × (Traced h q (Stay (RaiseForAll (casting n h.workers))) v w (HandAllBack (casting n h.workers)) ⊎ Traced h q (Stay (RaiseForAll (casting n h.workers))) v w Back))
+CastBack h q v w = PiecesBack h q (λ n. casting n h.workers) v w
+
+-- the acts by which this worker opens a broadcast that waits, from its Raise to where its pieces are queued. They have the row
+-- of names that belongs to the name of the call
+abbrev pub GatherOpened : PoolShape → ℕ → ℕ → Log → Log → Type 0
+GatherOpened h i n v w = (a : ℕ) × IsRow h.workers n (Some a) × Traced h (Worker 0 i) (Stay (RaiseCount (Gather (gathering i n a h.workers)))) v w (Mark (gather_all h (own_call n)) (dealt i n a h.workers) Dealt)
+
+-- the acts by which it goes on, whichever pieces were queued: it calls the workers, and waits for the pieces
+abbrev pub GatherLeft : PoolShape → ℕ → ℕ → Log → Log → Type 0
+GatherLeft h i n v w = (c : Pieces) → Worked h (Worker 0 i) (Mark (gather_all h (own_call n)) c Dealt) v w Back
+
+-- the acts of a broadcast that waits, from its Raise to its end
+abbrev pub Gathered : PoolShape → ℕ → Log → Log → Type 0
+Gathered h i v w = (n : ℕ) × (a : ℕ) × IsRow h.workers n (Some a) × Worked h (Worker 0 i) (Stay (RaiseCount (Gather (gathering i n a h.workers)))) v w Back
+
+-- the acts of a broadcast that waits and was handed back: none, or those from its Raise to there
+abbrev pub GatherBack : PoolShape → ℕ → Log → Log → Type 0
+GatherBack h i v w = (w ≡ v) ⊎ ((n : ℕ) × (a : ℕ) × IsRow h.workers n (Some a) × Traced h (Worker 0 i) (Stay (RaiseCount (Gather (gathering i n a h.workers)))) v w (HandBack (Gather (gathering i n a h.workers))))
 
 -- the acts of a task of this name that could not be added to the own FIFO list: none, or those of the adding as far as it was
 -- taken back

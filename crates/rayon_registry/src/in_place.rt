@@ -2,9 +2,10 @@
 ghost use Rattle.rayon_books.specs.Books.{Allowed};
 ghost use Rattle.rayon_books.specs.Receipts.{MetBy};
 ghost use Rattle.rayon_books.specs.declared.receipt.Receipt.{Receipt};
+ghost use Rattle.rayon_guests.specs.Visiting.{IsHere};
 ghost use Rattle.rayon_guests.specs.Visits.{OwnedBy};
 ghost use Rattle.rayon_jobs.specs.Within.{Run, Within};
-ghost use Rattle.rayon_performers.specs.Marks.{IsScope, scope_in};
+ghost use Rattle.rayon_shared.specs.Marks.{IsScope, scope_in};
 ghost use Rattle.std.specs.Prelude.{◌≡◌, ◌⊎◌, [], ◌∷◌, ◌++◌, Bool, List, None, Ok, Err, IfOk, IfErr, false, true};
 
 use crate::answers::scope_answer;
@@ -94,10 +95,8 @@ impl<J: JobKind> PoolRef<J> {
         ensures back { IfErr result (λ e. e.1 ≡ job) }
         ensures refused { IfErr result (λ e. (e.0 ≡ Refusal.Ended) ⊎ ((e.0 ≡ Refusal.Full) ⊎ (e.0 ≡ Refusal.NoRoom))) }
     {
-        if let Party::Worker { pool, .. } = owner {
-            if pool != 0 {
-                return Err((Refusal::Ended, job));
-            }
+        if !is_here(owner) {
+            return Err((Refusal::Ended, job));
         }
         let Some(name) = self.pool.shared.caller_name(rt) else {
             return Err((Refusal::Full, job));
@@ -110,6 +109,16 @@ impl<J: JobKind> PoolRef<J> {
         };
         let mut guest = Guest::new(&*self.pool.shared);
         guest.enter(rt, alloc, ticket, entry, job)
+    }
+}
+
+// Whether the party is a worker of the one pool that a pool's threads know, or an outside caller.
+pub(crate) fn is_here(party: Party) -> bool
+    ensures { result ≡ true → IsHere party }
+{
+    match party {
+        Party::Worker { pool, .. } => pool == 0,
+        Party::Caller(_) => true,
     }
 }
 

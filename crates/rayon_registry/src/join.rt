@@ -8,7 +8,7 @@ ghost use Rattle.rayon_machine_places.specs.declared.place.Move.TheVariants.{Bac
 ghost use Rattle.rayon_machine_places.specs.declared.place.Party.TheVariants.{Worker};
 ghost use Rattle.rayon_machine_places.specs.declared.place.Place.TheVariants as at;
 ghost use Rattle.rayon_performers.specs.Calls.{own_join};
-ghost use Rattle.rayon_performers.specs.Marks.{TakesUnit};
+ghost use Rattle.rayon_shared.specs.Marks.{TakesUnit};
 ghost use Rattle.rayon_registry.specs.Acts.{CallMade, HandedBack, Joined, Lowered, Met, Offered, Worked, ended_so};
 ghost use Rattle.rayon_registry.specs.Joins.{joins_by};
 ghost use Rattle.rayon_registry.specs.Answers.{joined, JoinAnswers};
@@ -91,9 +91,9 @@ impl<J: JobKind> WorkerThread<J> {
         ensures shallow { (sides : _) → result ≡ Err (CallError.Refused Refusal.TooDeep sides) → self.old.levels ≡ 0 }
         ensures same { SameWorker self.old self.new }
         ensures path { CallMade
-            (Joined self.old.shape (Worker 0 self.old.seat) Fine self.old.acts self.new.acts)
-            ((e : Ending) × Joined self.old.shape (Worker 0 self.old.seat) e self.old.acts self.new.acts)
-            (HandedBack self.old.shape (Worker 0 self.old.seat) own_join self.old.acts self.new.acts)
+            (Joined self.old.shape (Worker 0 self.old.id.index) Fine self.old.acts self.new.acts)
+            ((e : Ending) × Joined self.old.shape (Worker 0 self.old.id.index) e self.old.acts self.new.acts)
+            (HandedBack self.old.shape (Worker 0 self.old.id.index) own_join self.old.acts self.new.acts)
             result }
     {
         let Fork { call, tag } = match self.fork(rt, alloc, b, false) {
@@ -110,7 +110,7 @@ impl<J: JobKind> WorkerThread<J> {
     // Takes a unit of the terminate count, makes the ticket, pushes the second side, and tells the others of it.
     // Refused as a join is.
     #[inline(always)]
-    #[tactic(auto, unfolding(crate::specs::Pushes::pushed_by, crate::specs::Pushes::left_to, crate::specs::Pushes::takes_oldest, crate::specs::Pushes::units_of, crate::specs::Pushes::count_of, crate::specs::Pushes::shape_at, crate::specs::Pushes::seat_of, crate::specs::Pushes::acts_of, crate::specs::Pushes::saw_set))]
+    #[tactic(auto, unfolding(crate::specs::Pushes::pushed_by, crate::specs::Pushes::left_to, crate::specs::Pushes::takes_oldest, crate::specs::Pushes::units_of, crate::specs::Pushes::count_of, crate::specs::Pushes::shape_at, crate::specs::Pushes::index_of, crate::specs::Pushes::acts_of, crate::specs::Pushes::saw_set))]
     fn fork<R: Wait>(
         &mut self,
         rt: &R,
@@ -126,8 +126,8 @@ impl<J: JobKind> WorkerThread<J> {
         ensures deep { self.old.levels ≡ 0 → result ≡ Err (Refusal.TooDeep, b) }
         ensures shallow { IfErr result (λ e. e.0 ≡ Refusal.TooDeep → self.old.levels ≡ 0) }
         ensures path { MatchResult result
-            (λ f. Offered self.old.shape (Worker 0 self.old.seat) f.ticket.number self.old.acts self.new.acts)
-            (λ _. HandedBack self.old.shape (Worker 0 self.old.seat) own_join self.old.acts self.new.acts) }
+            (λ f. Offered self.old.shape (Worker 0 self.old.id.index) f.ticket.number self.old.acts self.new.acts)
+            (λ _. HandedBack self.old.shape (Worker 0 self.old.id.index) own_join self.old.acts self.new.acts) }
     {
         if self.levels == 0 {
             return Err((Refusal::TooDeep, b));
@@ -155,7 +155,7 @@ impl<J: JobKind> WorkerThread<J> {
         requires ticket { call_in held.ticket ≡ held.ticket.number }
         ensures ok { IfOk result (λ r. J.answers tag.now r) }
         ensures ended { EndedCall self.old self.new }
-        ensures path { Met self.old.shape (Worker 0 self.old.seat) held.ticket.number (ended_so first_faulted) self.old.acts self.new.acts }
+        ensures path { Met self.old.shape (Worker 0 self.old.id.index) held.ticket.number (ended_so first_faulted) self.old.acts self.new.acts }
     {
         let name = held.ticket.number();
         let call = OpenCall {
@@ -177,7 +177,7 @@ impl<J: JobKind> WorkerThread<J> {
     // Takes the own second side back and runs it, or runs what lies above it until it is met, or waits for the result
     // of the worker that stole it. Claims the result.
     #[inline(always)]
-    #[tactic(auto, unfolding(crate::specs::Pushes::units_of, crate::specs::Pushes::shape_at, crate::specs::Pushes::seat_of, crate::specs::Pushes::acts_of))]
+    #[tactic(auto, unfolding(crate::specs::Pushes::units_of, crate::specs::Pushes::shape_at, crate::specs::Pushes::index_of, crate::specs::Pushes::acts_of))]
     fn second_side<R: Waits<J>>(
         &mut self,
         rt: &R,
@@ -192,7 +192,7 @@ impl<J: JobKind> WorkerThread<J> {
         requires pool { call.pool ≡ 0 }
         ensures ok { IfOk result (λ r. J.answers tag.now r) }
         ensures ended { EndedCall self.old self.new }
-        ensures path { Worked self.old.shape (Worker 0 self.old.seat) (Stay (at.JoinProbe call)) self.old.acts self.new.acts Back }
+        ensures path { Worked self.old.shape (Worker 0 self.old.id.index) (Stay (at.JoinProbe call)) self.old.acts self.new.acts Back }
     {
         let mut held = Some(held);
         for _ in rt.forever() {
@@ -225,7 +225,7 @@ impl<J: JobKind> WorkerThread<J> {
     // Runs the own second side, which was taken back, gives the unit of the terminate count back, and claims the
     // result.
     #[inline(always)]
-    #[tactic(auto, unfolding(crate::specs::Pushes::units_of, crate::specs::Pushes::shape_at, crate::specs::Pushes::seat_of, crate::specs::Pushes::acts_of))]
+    #[tactic(auto, unfolding(crate::specs::Pushes::units_of, crate::specs::Pushes::shape_at, crate::specs::Pushes::index_of, crate::specs::Pushes::acts_of))]
     fn run_second<R: Waits<J>>(
         &mut self,
         rt: &R,
@@ -239,7 +239,7 @@ impl<J: JobKind> WorkerThread<J> {
         requires job { HasJob task.work }
         ensures ok { IfOk result (λ r. J.answers tag.now r) }
         ensures ended { EndedCall self.old self.new }
-        ensures path { Lowered self.old.shape (Worker 0 self.old.seat) call self.old.acts self.new.acts }
+        ensures path { Lowered self.old.shape (Worker 0 self.old.id.index) call self.old.acts self.new.acts }
     {
         if !task.is_single() {
             return claimed(Some(self.run_second_pair(rt, alloc, call, task)), tag);
@@ -260,7 +260,7 @@ impl<J: JobKind> WorkerThread<J> {
     // The same for a task of two sides, which no join of the worker's own queues.
     #[cold]
     #[inline(never)]
-    #[tactic(auto, unfolding(crate::specs::Pushes::units_of, crate::specs::Pushes::shape_at, crate::specs::Pushes::seat_of, crate::specs::Pushes::acts_of))]
+    #[tactic(auto, unfolding(crate::specs::Pushes::units_of, crate::specs::Pushes::shape_at, crate::specs::Pushes::index_of, crate::specs::Pushes::acts_of))]
     fn run_second_pair<R: Waits<J>>(
         &mut self,
         rt: &R,
@@ -272,7 +272,7 @@ impl<J: JobKind> WorkerThread<J> {
         requires levels { self.old.levels ≤ R.levels rt.now }
         requires job { HasJob task.work }
         ensures ended { EndedCall self.old self.new }
-        ensures path { Lowered self.old.shape (Worker 0 self.old.seat) call self.old.acts self.new.acts }
+        ensures path { Lowered self.old.shape (Worker 0 self.old.id.index) call self.old.acts self.new.acts }
     {
         let name = call.job;
         let (work, injected, share) = task_parts(task);
@@ -358,7 +358,7 @@ pub trait Lends<J: JobKind> {
     ghost height: { Self → ℕ };
 
     /// The pool's number and the worker's index, and by what its acts are told: its pool's shape and its index there.
-    ghost id: { Self → ℕ × ℕ × PoolShape × ℕ };
+    ghost id: { Self → ℕ × ℕ × PoolShape };
 
     /// The units of the terminate count that the worker's calls hold.
     ghost units: { Self → ℕ };
@@ -372,7 +372,7 @@ impl<J: JobKind> Lends<J> for WorkerThread<J> {
 
     ghost height = { λ w. w.levels };
 
-    ghost id = { λ w. (w.id.pool.number, w.id.index, w.shape, w.seat) };
+    ghost id = { λ w. (w.id.pool.number, w.id.index, w.shape) };
 
     ghost units = { λ w. w.units };
 
@@ -440,13 +440,13 @@ pub trait Sides<J: JobKind>: Lends<J> {
 impl<J: JobKind> Sides<J> for WorkerThread<J> {
     type Fork = ClosureFork<J>;
 
-    ghost handed_back = { λ v w. HandedBack v.shape (Worker 0 v.seat) own_join v.acts w.acts };
+    ghost handed_back = { λ v w. HandedBack v.shape (Worker 0 v.id.index) own_join v.acts w.acts };
 
-    ghost joined = { λ e v w. Joined v.shape (Worker 0 v.seat) e v.acts w.acts };
+    ghost joined = { λ e v w. Joined v.shape (Worker 0 v.id.index) e v.acts w.acts };
 
-    ghost offered = { λ v f. Offered v.shape (Worker 0 v.seat) f.fork.ticket.number v.acts f.lent.acts };
+    ghost offered = { λ v f. Offered v.shape (Worker 0 v.id.index) f.fork.ticket.number v.acts f.lent.acts };
 
-    ghost met = { λ e f w. (x : Log) × AddsRun f.lent.acts x × Met w.shape (Worker 0 w.seat) f.fork.ticket.number e x w.acts };
+    ghost met = { λ e f w. (x : Log) × AddsRun f.lent.acts x × Met w.shape (Worker 0 w.id.index) f.fork.ticket.number e x w.acts };
 
     ghost joins = { λ e v w f same a b. joins_by e v w f.fork.ticket.number f.lent.acts same a b };
 

@@ -14,6 +14,7 @@ mod parts;
 mod pool_parts;
 mod pool_ref;
 mod scope;
+mod scope_broadcast;
 mod thread_builder;
 mod worker_thread;
 

@@ -7,7 +7,7 @@ use crate::ids::PoolId;
 use crate::pool_ref::PoolRef;
 use rayon_guests::Guest;
 use rayon_jobs::JobKind;
-use rayon_performers::{PoolHold, Registry, WorkerKit};
+use rayon_shared::{PoolHold, Registry, WorkerKit};
 use rayon_tasks::Task;
 use rayon_words::Refusal;
 use std::alloc::{AllocFailed, Global};

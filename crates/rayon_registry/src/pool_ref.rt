@@ -23,7 +23,7 @@ use std::sync::{Arc, Wait};
 #[derive(Drop)]
 pub(crate) struct PoolShare<T> {
     pub(crate) id: PoolId,
-    pub(crate) shared: Arc<rayon_performers::Registry<T>, Global>,
+    pub(crate) shared: Arc<rayon_shared::Registry<T>, Global>,
 }
 
 /// A pool as any thread uses it: it can be sent to other threads and shared among them. It keeps no pool from ending.
@@ -48,7 +48,7 @@ impl<J: JobKind> PoolRef<J> {
     // The pool with this number, whose threads share this.
     pub(crate) fn of(
         id: PoolId,
-        shared: Arc<rayon_performers::Registry<Task<J>>, Global>,
+        shared: Arc<rayon_shared::Registry<Task<J>>, Global>,
         faults: SharedFaults<J::Fault, J::Handler>,
     ) -> PoolRef<J>
         ensures { result ≡ record { id = id; workers = (arc_value shared).workers; depth_limit = (arc_value shared).depth_limit; breadth_first = (arc_value shared).breadth_first; count = (arc_value shared).count } }

@@ -10,7 +10,7 @@ ghost use Rattle.rayon_machine_places.specs.declared.place.Ending.TheVariants.{F
 ghost use Rattle.rayon_machine_places.specs.declared.place.Party.TheVariants.{Worker};
 ghost use Rattle.rayon_machine_places.specs.declared.place.Plan.TheVariants as plans;
 ghost use Rattle.rayon_performers.specs.Calls.{own_call};
-ghost use Rattle.rayon_performers.specs.Marks.{IsScope, TakesUnit, scope_in};
+ghost use Rattle.rayon_shared.specs.Marks.{IsScope, TakesUnit, scope_in};
 ghost use Rattle.rayon_performers.specs.Scopes.{Entered, EnteredInOrder, entered_task, entering, entry_of, into, scope_token};
 ghost use Rattle.rayon_registry.specs.Acts.{CallMade, HandedBack, ScopeLeft, ScopeOpened, Scoped, ended_so};
 ghost use Rattle.rayon_registry.specs.Scopes.{scopes_by};
@@ -51,7 +51,7 @@ pub type ScopeFifo<J> = Scope<J>;
 
 impl<J: JobKind> Model for Scope<J> {
     ghost use Rattle.rayon_guests.specs.Visits.{OwnedBy};
-    ghost use Rattle.rayon_performers.specs.Marks.{IsScope, scope_in};
+    ghost use Rattle.rayon_shared.specs.Marks.{IsScope, scope_in};
     ghost use Rattle.rayon_registry.specs.Scopes.{ScopeValue};
 
     ghost Value = { ScopeValue J.Tag };
@@ -65,19 +65,19 @@ impl<J: JobKind> Scope<J> {
     /// Spawns a job into the scope, by the worker that calls: puts it last into that worker's own deque. The scope
     /// waits for the job, and answers its output at the number that this answers. Refused `Full`, `NoRoom`, `Ended`,
     /// with the job back and nothing added; `Ended` also to a worker of another pool.
-    #[tactic(auto, unfolding(crate::specs::Pushes::pushed_by, crate::specs::Pushes::left_to, crate::specs::Pushes::takes_oldest, crate::specs::Pushes::units_of, crate::specs::Pushes::count_of, crate::specs::Pushes::shape_at, crate::specs::Pushes::seat_of, crate::specs::Pushes::acts_of, crate::specs::Pushes::saw_set))]
+    #[tactic(auto, unfolding(crate::specs::Pushes::pushed_by, crate::specs::Pushes::left_to, crate::specs::Pushes::takes_oldest, crate::specs::Pushes::units_of, crate::specs::Pushes::count_of, crate::specs::Pushes::shape_at, crate::specs::Pushes::index_of, crate::specs::Pushes::acts_of, crate::specs::Pushes::saw_set))]
     pub fn spawn<R: Wait>(
         &mut self,
         rt: &R,
         by: &mut WorkerThread<J>,
         job: J,
     ) -> Result<u64, (Refusal, J)>
-        ensures entered { IfOk result (λ n. (u : TicketOf) × (k : ℕ) × (self.old.ticket ≡ Some u) × Entered by.old.shape (Worker 0 by.old.seat) self.old.call self.old.owner k by.old.acts by.new.acts × (by.new ≡ record by.old { pushed = by.old.pushed ++ entered_task job u k n ∷ []; left = by.old.left ++ entered_task job u k n ∷ []; acts = by.new.acts })) }
+        ensures entered { IfOk result (λ n. (u : TicketOf) × (k : ℕ) × (self.old.ticket ≡ Some u) × Entered by.old.shape (Worker 0 by.old.id.index) self.old.call self.old.owner k by.old.acts by.new.acts × (by.new ≡ record by.old { pushed = by.old.pushed ++ entered_task job u k n ∷ []; left = by.old.left ++ entered_task job u k n ∷ []; acts = by.new.acts })) }
         ensures receipt { IfOk result (λ n. self.old.keeps ≡ true → self.new.receipts ≡ self.old.receipts ++ record { number = n; tag = J.tag_of job; place = None } ∷ []) }
         ensures scope { self.new ≡ record self.old { receipts = self.new.receipts } }
         ensures pool { IfOk result (λ _. by.old.id.pool ≡ self.old.pool) }
         ensures back { IfErr result (λ e. (e.1 ≡ job) × (self.new ≡ self.old)) }
-        ensures path { IfErr result (λ _. HandedBack by.old.shape (Worker 0 by.old.seat) (entering self.old.call self.old.owner) by.old.acts by.new.acts) }
+        ensures path { IfErr result (λ _. HandedBack by.old.shape (Worker 0 by.old.id.index) (entering self.old.call self.old.owner) by.old.acts by.new.acts) }
         ensures kept { IfErr result (λ _. by.new ≡ record by.old { acts = by.new.acts }) }
         ensures refused { IfErr result (λ e. (e.0 ≡ Refusal.Ended) ⊎ ((e.0 ≡ Refusal.Full) ⊎ (e.0 ≡ Refusal.NoRoom))) }
     {
@@ -106,19 +106,19 @@ impl<J: JobKind> Scope<J> {
     /// the job, and answers its output at the number that this answers, as with `spawn`. Refused `Full`, `NoRoom`,
     /// `Ended`, with the job back and nothing added; `Ended` also to a worker of another pool. rayon-core has it of
     /// `ScopeFifo` alone.
-    #[tactic(auto, unfolding(crate::specs::Pushes::pushed_by, crate::specs::Pushes::left_to, crate::specs::Pushes::takes_oldest, crate::specs::Pushes::units_of, crate::specs::Pushes::count_of, crate::specs::Pushes::shape_at, crate::specs::Pushes::seat_of, crate::specs::Pushes::acts_of, crate::specs::Pushes::saw_set))]
+    #[tactic(auto, unfolding(crate::specs::Pushes::pushed_by, crate::specs::Pushes::left_to, crate::specs::Pushes::takes_oldest, crate::specs::Pushes::units_of, crate::specs::Pushes::count_of, crate::specs::Pushes::shape_at, crate::specs::Pushes::index_of, crate::specs::Pushes::acts_of, crate::specs::Pushes::saw_set))]
     pub fn spawn_fifo<R: Wait>(
         &mut self,
         rt: &R,
         by: &mut WorkerThread<J>,
         job: J,
     ) -> Result<u64, (Refusal, J)>
-        ensures entered { IfOk result (λ _. (u : TicketOf) × (k : ℕ) × (m : ℕ) × (self.old.ticket ≡ Some u) × EnteredInOrder by.old.shape (Worker 0 by.old.seat) (entry_of self.old.call self.old.owner k) m by.old.acts by.new.acts × (by.new ≡ record by.old { pushed = by.old.pushed ++ scope_token u by.old.seat m ∷ []; left = by.old.left ++ scope_token u by.old.seat m ∷ []; acts = by.new.acts })) }
+        ensures entered { IfOk result (λ _. (u : TicketOf) × (k : ℕ) × (m : ℕ) × (self.old.ticket ≡ Some u) × EnteredInOrder by.old.shape (Worker 0 by.old.id.index) (entry_of self.old.call self.old.owner k) m by.old.acts by.new.acts × (by.new ≡ record by.old { pushed = by.old.pushed ++ scope_token u by.old.id.index m ∷ []; left = by.old.left ++ scope_token u by.old.id.index m ∷ []; acts = by.new.acts })) }
         ensures receipt { IfOk result (λ n. self.old.keeps ≡ true → self.new.receipts ≡ self.old.receipts ++ record { number = n; tag = J.tag_of job; place = None } ∷ []) }
         ensures scope { self.new ≡ record self.old { receipts = self.new.receipts } }
         ensures pool { IfOk result (λ _. by.old.id.pool ≡ self.old.pool) }
         ensures back { IfErr result (λ e. (e.1 ≡ job) × (self.new ≡ self.old)) }
-        ensures path { IfErr result (λ _. (m : ℕ) × HandedBack by.old.shape (Worker 0 by.old.seat) (λ k. plans.Feed (into (entry_of self.old.call self.old.owner k) m)) by.old.acts by.new.acts) }
+        ensures path { IfErr result (λ _. (m : ℕ) × HandedBack by.old.shape (Worker 0 by.old.id.index) (λ k. plans.Feed (into (entry_of self.old.call self.old.owner k) m)) by.old.acts by.new.acts) }
         ensures kept { IfErr result (λ _. by.new ≡ record by.old { acts = by.new.acts }) }
         ensures refused { IfErr result (λ e. (e.0 ≡ Refusal.Ended) ⊎ ((e.0 ≡ Refusal.Full) ⊎ (e.0 ≡ Refusal.NoRoom))) }
     {
@@ -150,7 +150,7 @@ pub struct Opening<J: JobKind> {
 }
 
 impl<J: JobKind> Model for Opening<J> {
-    ghost use Rattle.rayon_performers.specs.Marks.{IsScope};
+    ghost use Rattle.rayon_shared.specs.Marks.{IsScope};
     ghost use Rattle.std.specs.Prelude.{◌≡◌, ℕ};
 
     ghost Value = { ℕ };
@@ -168,7 +168,7 @@ pub struct Opened<J: JobKind> {
 
 impl<J: JobKind> WorkerThread<J> {
     // Spawns a job into the scope of this call and this owner, which the ticket is of.
-    #[tactic(auto, unfolding(crate::specs::Pushes::pushed_by, crate::specs::Pushes::left_to, crate::specs::Pushes::takes_oldest, crate::specs::Pushes::units_of, crate::specs::Pushes::count_of, crate::specs::Pushes::shape_at, crate::specs::Pushes::seat_of, crate::specs::Pushes::acts_of, crate::specs::Pushes::saw_set))]
+    #[tactic(auto, unfolding(crate::specs::Pushes::pushed_by, crate::specs::Pushes::left_to, crate::specs::Pushes::takes_oldest, crate::specs::Pushes::units_of, crate::specs::Pushes::count_of, crate::specs::Pushes::shape_at, crate::specs::Pushes::index_of, crate::specs::Pushes::acts_of, crate::specs::Pushes::saw_set))]
     fn enter<R: Wait>(
         &mut self,
         rt: &R,
@@ -179,9 +179,9 @@ impl<J: JobKind> WorkerThread<J> {
     ) -> Result<u64, (Refusal, J)>
         requires { IsScope (scope_in ticket.old) call }
         ensures ticket { ticket.new ≡ ticket.old }
-        ensures entered { IfOk result (λ n. (u : TicketOf) × (k : ℕ) × (ticket.old ≡ Some u) × Entered self.old.shape (Worker 0 self.old.seat) call owner k self.old.acts self.new.acts × (self.new ≡ record self.old { pushed = self.old.pushed ++ entered_task job u k n ∷ []; left = self.old.left ++ entered_task job u k n ∷ []; acts = self.new.acts })) }
+        ensures entered { IfOk result (λ n. (u : TicketOf) × (k : ℕ) × (ticket.old ≡ Some u) × Entered self.old.shape (Worker 0 self.old.id.index) call owner k self.old.acts self.new.acts × (self.new ≡ record self.old { pushed = self.old.pushed ++ entered_task job u k n ∷ []; left = self.old.left ++ entered_task job u k n ∷ []; acts = self.new.acts })) }
         ensures back { IfErr result (λ e. e.1 ≡ job) }
-        ensures path { IfErr result (λ _. HandedBack self.old.shape (Worker 0 self.old.seat) (entering call owner) self.old.acts self.new.acts) }
+        ensures path { IfErr result (λ _. HandedBack self.old.shape (Worker 0 self.old.id.index) (entering call owner) self.old.acts self.new.acts) }
         ensures kept { IfErr result (λ _. self.new ≡ record self.old { acts = self.new.acts }) }
         ensures refused { IfErr result (λ e. (e.0 ≡ Refusal.Ended) ⊎ ((e.0 ≡ Refusal.Full) ⊎ (e.0 ≡ Refusal.NoRoom))) }
     {
@@ -193,7 +193,7 @@ impl<J: JobKind> WorkerThread<J> {
     }
 
     // Spawns a job in order into the scope of this call and this owner, which the ticket is of.
-    #[tactic(auto, unfolding(crate::specs::Pushes::pushed_by, crate::specs::Pushes::left_to, crate::specs::Pushes::takes_oldest, crate::specs::Pushes::units_of, crate::specs::Pushes::count_of, crate::specs::Pushes::shape_at, crate::specs::Pushes::seat_of, crate::specs::Pushes::acts_of, crate::specs::Pushes::saw_set))]
+    #[tactic(auto, unfolding(crate::specs::Pushes::pushed_by, crate::specs::Pushes::left_to, crate::specs::Pushes::takes_oldest, crate::specs::Pushes::units_of, crate::specs::Pushes::count_of, crate::specs::Pushes::shape_at, crate::specs::Pushes::index_of, crate::specs::Pushes::acts_of, crate::specs::Pushes::saw_set))]
     fn enter_fifo<R: Wait>(
         &mut self,
         rt: &R,
@@ -204,9 +204,9 @@ impl<J: JobKind> WorkerThread<J> {
     ) -> Result<u64, (Refusal, J)>
         requires { IsScope (scope_in ticket.old) call }
         ensures ticket { ticket.new ≡ ticket.old }
-        ensures entered { IfOk result (λ _. (u : TicketOf) × (k : ℕ) × (m : ℕ) × (ticket.old ≡ Some u) × EnteredInOrder self.old.shape (Worker 0 self.old.seat) (entry_of call owner k) m self.old.acts self.new.acts × (self.new ≡ record self.old { pushed = self.old.pushed ++ scope_token u self.old.seat m ∷ []; left = self.old.left ++ scope_token u self.old.seat m ∷ []; acts = self.new.acts })) }
+        ensures entered { IfOk result (λ _. (u : TicketOf) × (k : ℕ) × (m : ℕ) × (ticket.old ≡ Some u) × EnteredInOrder self.old.shape (Worker 0 self.old.id.index) (entry_of call owner k) m self.old.acts self.new.acts × (self.new ≡ record self.old { pushed = self.old.pushed ++ scope_token u self.old.id.index m ∷ []; left = self.old.left ++ scope_token u self.old.id.index m ∷ []; acts = self.new.acts })) }
         ensures back { IfErr result (λ e. e.1 ≡ job) }
-        ensures path { IfErr result (λ _. (m : ℕ) × HandedBack self.old.shape (Worker 0 self.old.seat) (λ k. plans.Feed (into (entry_of call owner k) m)) self.old.acts self.new.acts) }
+        ensures path { IfErr result (λ _. (m : ℕ) × HandedBack self.old.shape (Worker 0 self.old.id.index) (λ k. plans.Feed (into (entry_of call owner k) m)) self.old.acts self.new.acts) }
         ensures kept { IfErr result (λ _. self.new ≡ record self.old { acts = self.new.acts }) }
         ensures refused { IfErr result (λ e. (e.0 ≡ Refusal.Ended) ⊎ ((e.0 ≡ Refusal.Full) ⊎ (e.0 ≡ Refusal.NoRoom))) }
     {
@@ -244,7 +244,7 @@ impl<J: JobKind> WorkerThread<J> {
     }
 
     // Opens a scope, and lends the worker value: it has one level fewer. Refused as a join is.
-    #[tactic(auto, unfolding(crate::specs::Pushes::pushed_by, crate::specs::Pushes::left_to, crate::specs::Pushes::takes_oldest, crate::specs::Pushes::units_of, crate::specs::Pushes::count_of, crate::specs::Pushes::shape_at, crate::specs::Pushes::seat_of, crate::specs::Pushes::acts_of, crate::specs::Pushes::saw_set))]
+    #[tactic(auto, unfolding(crate::specs::Pushes::pushed_by, crate::specs::Pushes::left_to, crate::specs::Pushes::takes_oldest, crate::specs::Pushes::units_of, crate::specs::Pushes::count_of, crate::specs::Pushes::shape_at, crate::specs::Pushes::index_of, crate::specs::Pushes::acts_of, crate::specs::Pushes::saw_set))]
     fn open<R: Wait>(&mut self, rt: &R, alloc: Global) -> Result<(Opening<J>, Scope<J>), Refusal>
         ensures scope { IfOk result (λ o. (o.1.pool ≡ self.old.id.pool) × (o.1.receipts ≡ []) × (o.1.keeps ≡ true)) }
         ensures left { IfOk result (λ _. self.new ≡ record self.old { units = self.old.units + 1; count = self.new.count; acts = self.new.acts }) }
@@ -253,8 +253,8 @@ impl<J: JobKind> WorkerThread<J> {
         ensures kept { IfErr result (λ _. Kept self.old self.new) }
         ensures deep { self.old.levels ≡ 0 → result ≡ Err Refusal.TooDeep }
         ensures shallow { IfErr result (λ r. r ≡ Refusal.TooDeep → self.old.levels ≡ 0) }
-        ensures opened { IfOk result (λ o. ScopeOpened self.old.shape (Worker 0 self.old.seat) o.0 self.old.acts self.new.acts) }
-        ensures path { IfErr result (λ _. HandedBack self.old.shape (Worker 0 self.old.seat) (λ n. plans.Open (own_call n)) self.old.acts self.new.acts) }
+        ensures opened { IfOk result (λ o. ScopeOpened self.old.shape (Worker 0 self.old.id.index) o.0 self.old.acts self.new.acts) }
+        ensures path { IfErr result (λ _. HandedBack self.old.shape (Worker 0 self.old.id.index) (λ n. plans.Open (own_call n)) self.old.acts self.new.acts) }
     {
         if self.levels == 0 {
             return Err(Refusal::TooDeep);
@@ -276,7 +276,7 @@ impl<J: JobKind> WorkerThread<J> {
 
     // The body has ended so: waits for the jobs of the scope of this call, and works meanwhile. Answers the outputs, by
     // number, or why there are none.
-    #[tactic(auto, unfolding(crate::specs::Pushes::units_of, crate::specs::Pushes::shape_at, crate::specs::Pushes::seat_of, crate::specs::Pushes::acts_of))]
+    #[tactic(auto, unfolding(crate::specs::Pushes::units_of, crate::specs::Pushes::shape_at, crate::specs::Pushes::index_of, crate::specs::Pushes::acts_of))]
     fn finish<R: Waits<J>>(
         &mut self,
         rt: &R,
@@ -289,7 +289,7 @@ impl<J: JobKind> WorkerThread<J> {
         ensures fault { IfErr result (Allowed J.answers (J.answers_on J.answers)) }
         ensures own { result ≡ Err NoOutputs.Foreign → ⊥ }
         ensures ended { EndedCall self.old self.new }
-        ensures path { ScopeLeft self.old.shape (Worker 0 self.old.seat) opening ending self.old.acts self.new.acts }
+        ensures path { ScopeLeft self.old.shape (Worker 0 self.old.id.index) opening ending self.old.acts self.new.acts }
     {
         let Opening { call: held, share } = opening;
         let name = held.ticket.number();
@@ -316,9 +316,9 @@ impl<J: JobKind> WorkerThread<J> {
         }
     }
 
-    // What the book of the scope that has ended gave.
-    #[tactic(auto, unfolding(crate::specs::Pushes::pushed_by, crate::specs::Pushes::left_to, crate::specs::Pushes::takes_oldest, crate::specs::Pushes::units_of, crate::specs::Pushes::count_of, crate::specs::Pushes::shape_at, crate::specs::Pushes::seat_of, crate::specs::Pushes::acts_of, crate::specs::Pushes::saw_set))]
-    fn outcome(&mut self) -> Result<Vec<Done<J>>, NoOutputs<J::Fault>>
+    // What the book of the scope or the broadcast that has ended gave.
+    #[tactic(auto, unfolding(crate::specs::Pushes::pushed_by, crate::specs::Pushes::left_to, crate::specs::Pushes::takes_oldest, crate::specs::Pushes::units_of, crate::specs::Pushes::count_of, crate::specs::Pushes::shape_at, crate::specs::Pushes::index_of, crate::specs::Pushes::acts_of, crate::specs::Pushes::saw_set))]
+    pub(crate) fn outcome(&mut self) -> Result<Vec<Done<J>>, NoOutputs<J::Fault>>
         ensures same { self.new ≡ self.old }
         ensures fault { IfErr result (Allowed J.answers (J.answers_on J.answers)) }
         ensures own { result ≡ Err NoOutputs.Foreign → ⊥ }
@@ -413,13 +413,13 @@ impl<J: JobKind> Opens<J> for WorkerThread<J> {
 
     ghost opened_levels = { λ o. o.lent.levels };
 
-    ghost not_opened = { λ v w. HandedBack v.shape (Worker 0 v.seat) (λ n. plans.Open (own_call n)) v.acts w.acts };
+    ghost not_opened = { λ v w. HandedBack v.shape (Worker 0 v.id.index) (λ n. plans.Open (own_call n)) v.acts w.acts };
 
-    ghost scoped = { λ e v w. Scoped v.shape (Worker 0 v.seat) e v.acts w.acts };
+    ghost scoped = { λ e v w. Scoped v.shape (Worker 0 v.id.index) e v.acts w.acts };
 
-    ghost opens = { λ v o. ScopeOpened v.shape (Worker 0 v.seat) o.opening v.acts o.lent.acts };
+    ghost opens = { λ v o. ScopeOpened v.shape (Worker 0 v.id.index) o.opening v.acts o.lent.acts };
 
-    ghost closes = { λ e o w. (x : Log) × AddsRun o.lent.acts x × ScopeLeft w.shape (Worker 0 w.seat) o.opening e x w.acts };
+    ghost closes = { λ e o w. (x : Log) × AddsRun o.lent.acts x × ScopeLeft w.shape (Worker 0 w.id.index) o.opening e x w.acts };
 
     ghost scopes = { λ e v w o same a b. scopes_by e v w o.opening o.lent.acts same a b };
 

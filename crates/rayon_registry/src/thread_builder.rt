@@ -9,7 +9,7 @@ use crate::level::{Level, work_at};
 use crate::pool_ref::PoolRef;
 use crate::worker_thread::WorkerThread;
 use rayon_jobs::JobKind;
-use rayon_performers::{Registry, WorkerKit};
+use rayon_shared::{Registry, WorkerKit};
 use rayon_tasks::Task;
 use std::alloc::Global;
 use std::marker::Model;

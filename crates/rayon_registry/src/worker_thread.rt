@@ -1,8 +1,8 @@
 //! The value that stands for a worker.
 ghost use Rattle.rayon_performers.specs.Begins.{BringsJob};
 ghost use Rattle.rayon_performers.specs.Fifos.{Fed, feeding, token_task};
-ghost use Rattle.rayon_performers.specs.Hands.{HasTicket};
-ghost use Rattle.rayon_performers.specs.Marks.{TakesUnit};
+ghost use Rattle.rayon_shared.specs.AtHand.{HasTicket};
+ghost use Rattle.rayon_shared.specs.Marks.{TakesUnit};
 ghost use Rattle.rayon_performers.specs.Spawns.{ClosesUnit, Spawned, detached_task};
 ghost use Rattle.rayon_performers.specs.Stands.{call_to};
 ghost use Rattle.rayon_queues.specs.Deques.{Leaves};
@@ -37,7 +37,8 @@ use crate::parts::Parts;
 use crate::pool_ref::{PoolRef, PoolShare};
 use rayon_jobs::{Done, JobKind};
 use rayon_machine_places::place::{Ending, JobKind as Kind, Move, Place, Target, Then};
-use rayon_performers::{Aside, Bench, WorkerKit};
+use rayon_performers::{Aside, Bench};
+use rayon_shared::WorkerKit;
 use rayon_sleep::latch::{OwnLatch, Owner};
 use rayon_tasks::{Call, Names, Pair, Task, Ticket, Work, task_parts};
 use rayon_words::{CallError, Refusal};
@@ -61,16 +62,17 @@ impl<J: JobKind> Model for WorkerThread<J> {
     ghost use Rattle.rayon_registry.specs.Worker.{Worker};
     ghost use Rattle.rayon_tasks.specs.Tasks.{TaskOf};
     ghost use Rattle.std.specs.Coded.{codes};
+    ghost use Rattle.std.specs.Prelude.{◌≡◌};
     ghost use Rattle.rayon_drive.specs.contracts.trace.Log as logs;
-    ghost use Rattle.rayon_registry.specs.Pushes.{acts_of, count_of, left_to, pushed_by, rests, saw_set, seat_of, shape_at, takes_oldest, units_of};
+    ghost use Rattle.rayon_registry.specs.Pushes.{acts_of, count_of, left_to, pushed_by, rests, saw_set, index_of, shape_at, takes_oldest, units_of};
 
     ghost Value = { Worker (TaskOf J) };
 
     ghost coded = { Prim.hlevel (codes, logs.the_row.coded) };
 
-    ghost view = { λ w. record { id = w.id; levels = w.levels; pushed = pushed_by w.bench; left = left_to w.bench; oldest_first = takes_oldest w.bench; units = units_of w.bench; count = count_of w.bench; shape = shape_at w.bench; seat = seat_of w.bench; acts = acts_of w.bench; probed = saw_set w.bench } };
+    ghost view = { λ w. record { id = record { pool = w.id.pool; index = index_of w.bench }; levels = w.levels; pushed = pushed_by w.bench; left = left_to w.bench; oldest_first = takes_oldest w.bench; units = units_of w.bench; count = count_of w.bench; shape = shape_at w.bench; acts = acts_of w.bench; probed = saw_set w.bench } };
 
-    ghost invariant = { λ w. rests w.bench };
+    ghost invariant = { λ w. rests w.bench × (index_of w.bench ≡ w.id.index) };
 }
 
 // What a worker value had before it was lent to a run: its levels, and the acts of the program below the run. It has no
@@ -82,14 +84,13 @@ pub(crate) struct Lent {
 
 impl<J: JobKind> WorkerThread<J> {
     /// The worker with this index of the pool, which begins with this. There is one value for each.
-    #[tactic(auto, unfolding(crate::specs::Pushes::units_of, crate::specs::Pushes::shape_at, crate::specs::Pushes::seat_of, crate::specs::Pushes::acts_of))]
+    #[tactic(auto, unfolding(crate::specs::Pushes::units_of, crate::specs::Pushes::shape_at, crate::specs::Pushes::index_of, crate::specs::Pushes::acts_of))]
     pub(crate) fn new(pool: PoolRef<J>, index: usize, deque: WorkerKit<Task<J>>) -> WorkerThread<J>
         requires { index < pool.workers }
         ensures pool { result.id.pool ≡ pool.id }
         ensures index { result.id.index ≡ index }
         ensures levels { result.levels ≡ pool.depth_limit }
         ensures units { result.units ≡ 0 }
-        ensures seat { result.seat ≡ index }
         ensures acts { result.acts ≡ Empty }
     {
         let PoolRef {
@@ -109,7 +110,7 @@ impl<J: JobKind> WorkerThread<J> {
 
     // Lends the worker value to a run: it has one level fewer, and the run's acts stand apart from those before it.
     #[inline(always)]
-    #[tactic(auto, unfolding(crate::specs::Pushes::pushed_by, crate::specs::Pushes::left_to, crate::specs::Pushes::takes_oldest, crate::specs::Pushes::units_of, crate::specs::Pushes::count_of, crate::specs::Pushes::shape_at, crate::specs::Pushes::seat_of, crate::specs::Pushes::acts_of, crate::specs::Pushes::saw_set))]
+    #[tactic(auto, unfolding(crate::specs::Pushes::pushed_by, crate::specs::Pushes::left_to, crate::specs::Pushes::takes_oldest, crate::specs::Pushes::units_of, crate::specs::Pushes::count_of, crate::specs::Pushes::shape_at, crate::specs::Pushes::index_of, crate::specs::Pushes::acts_of, crate::specs::Pushes::saw_set))]
     pub(crate) fn lend(&mut self) -> Lent
         requires { 0 < self.old.levels }
         ensures given { (result.levels ≡ self.old.levels) × (result.acts ≡ self.old.acts) }
@@ -125,7 +126,7 @@ impl<J: JobKind> WorkerThread<J> {
 
     // Takes the worker value back from a run, as it was lent.
     #[inline(always)]
-    #[tactic(auto, unfolding(crate::specs::Pushes::pushed_by, crate::specs::Pushes::left_to, crate::specs::Pushes::takes_oldest, crate::specs::Pushes::units_of, crate::specs::Pushes::count_of, crate::specs::Pushes::shape_at, crate::specs::Pushes::seat_of, crate::specs::Pushes::acts_of, crate::specs::Pushes::saw_set))]
+    #[tactic(auto, unfolding(crate::specs::Pushes::pushed_by, crate::specs::Pushes::left_to, crate::specs::Pushes::takes_oldest, crate::specs::Pushes::units_of, crate::specs::Pushes::count_of, crate::specs::Pushes::shape_at, crate::specs::Pushes::index_of, crate::specs::Pushes::acts_of, crate::specs::Pushes::saw_set))]
     pub(crate) fn take_back(&mut self, lent: Lent)
         ensures run { AddsRun lent.acts self.new.acts }
         ensures left { self.new ≡ record self.old { levels = lent.levels; acts = self.new.acts } }
@@ -166,9 +167,9 @@ impl<J: JobKind> WorkerThread<J> {
 
     /// What stands for the worker where a latch is set that it may sleep on, as another thread does: a `SpinLatch` of
     /// this owner wakes the worker. Refused `NoRoom`.
-    #[tactic(auto, unfolding(crate::specs::Pushes::seat_of))]
+    #[tactic(auto, unfolding(crate::specs::Pushes::index_of))]
     pub fn owner(&self) -> Result<Owner, Refusal>
-        ensures seat { IfOk result (λ o. o ≡ self.now.seat) }
+        ensures index { IfOk result (λ o. o ≡ self.now.id.index) }
         ensures refused { IfErr result (λ r. r ≡ Refusal.NoRoom) }
     {
         self.bench.owner()
@@ -176,7 +177,7 @@ impl<J: JobKind> WorkerThread<J> {
 
     /// Runs a job at once, with exactly one level fewer. Refused `TooDeep` exactly where no level is left, `Ended`,
     /// `Full`, with the job back and the worker value unchanged. It is never `Foreign` or `Missing`.
-    #[tactic(auto, unfolding(crate::specs::Pushes::pushed_by, crate::specs::Pushes::left_to, crate::specs::Pushes::takes_oldest, crate::specs::Pushes::units_of, crate::specs::Pushes::count_of, crate::specs::Pushes::shape_at, crate::specs::Pushes::seat_of, crate::specs::Pushes::acts_of, crate::specs::Pushes::saw_set))]
+    #[tactic(auto, unfolding(crate::specs::Pushes::pushed_by, crate::specs::Pushes::left_to, crate::specs::Pushes::takes_oldest, crate::specs::Pushes::units_of, crate::specs::Pushes::count_of, crate::specs::Pushes::shape_at, crate::specs::Pushes::index_of, crate::specs::Pushes::acts_of, crate::specs::Pushes::saw_set))]
     pub fn install<R: Waits<J>>(
         &mut self,
         rt: &R,
@@ -192,9 +193,9 @@ impl<J: JobKind> WorkerThread<J> {
         ensures found { (result ≡ Err CallError.Foreign → ⊥) × (result ≡ Err CallError.Missing → ⊥) }
         ensures same { SameWorker self.old self.new }
         ensures path { CallMade
-            (Installed self.old.shape (Worker 0 self.old.seat) Fine self.old.acts self.new.acts)
-            (Installed self.old.shape (Worker 0 self.old.seat) Fault self.old.acts self.new.acts)
-            (HandedBack self.old.shape (Worker 0 self.old.seat) (Here 0) self.old.acts self.new.acts)
+            (Installed self.old.shape (Worker 0 self.old.id.index) Fine self.old.acts self.new.acts)
+            (Installed self.old.shape (Worker 0 self.old.id.index) Fault self.old.acts self.new.acts)
+            (HandedBack self.old.shape (Worker 0 self.old.id.index) (Here 0) self.old.acts self.new.acts)
             result }
     {
         if self.levels == 0 {
@@ -219,7 +220,7 @@ impl<J: JobKind> WorkerThread<J> {
 
     /// Whether nothing lies in the worker's own deque. It is so where nothing that the worker pushed is left to it;
     /// else thieves may have taken that.
-    #[tactic(auto, unfolding(crate::specs::Pushes::pushed_by, crate::specs::Pushes::left_to, crate::specs::Pushes::takes_oldest, crate::specs::Pushes::units_of, crate::specs::Pushes::count_of, crate::specs::Pushes::shape_at, crate::specs::Pushes::seat_of, crate::specs::Pushes::acts_of, crate::specs::Pushes::saw_set))]
+    #[tactic(auto, unfolding(crate::specs::Pushes::pushed_by, crate::specs::Pushes::left_to, crate::specs::Pushes::takes_oldest, crate::specs::Pushes::units_of, crate::specs::Pushes::count_of, crate::specs::Pushes::shape_at, crate::specs::Pushes::index_of, crate::specs::Pushes::acts_of, crate::specs::Pushes::saw_set))]
     pub fn local_deque_is_empty(&mut self) -> bool
         ensures empty { self.old.left ≡ [] → result ≡ true }
         ensures same { self.new ≡ record self.old { acts = self.new.acts } }
@@ -229,12 +230,12 @@ impl<J: JobKind> WorkerThread<J> {
 
     /// Puts a task last into the worker's own deque, and wakes whom that owes a wake. Refused `NoRoom`, with the task
     /// back and nothing added. It raises no count.
-    #[tactic(auto, unfolding(crate::specs::Pushes::pushed_by, crate::specs::Pushes::left_to, crate::specs::Pushes::takes_oldest, crate::specs::Pushes::units_of, crate::specs::Pushes::count_of, crate::specs::Pushes::shape_at, crate::specs::Pushes::seat_of, crate::specs::Pushes::acts_of, crate::specs::Pushes::saw_set))]
+    #[tactic(auto, unfolding(crate::specs::Pushes::pushed_by, crate::specs::Pushes::left_to, crate::specs::Pushes::takes_oldest, crate::specs::Pushes::units_of, crate::specs::Pushes::count_of, crate::specs::Pushes::shape_at, crate::specs::Pushes::index_of, crate::specs::Pushes::acts_of, crate::specs::Pushes::saw_set))]
     pub fn push<R: Wait>(&mut self, rt: &R, task: Task<J>) -> Result<(), (Refusal, Task<J>)>
         ensures pushed { MatchResult result (λ _. self.new ≡ record self.old { pushed = self.old.pushed ++ task ∷ []; left = self.old.left ++ task ∷ []; acts = self.new.acts }) (λ e. (e ≡ (Refusal.NoRoom, task)) × (self.new ≡ record self.old { acts = self.new.acts })) }
         ensures path { MatchResult result
-            (λ _. Traced self.old.shape (Worker 0 self.old.seat) (Stay (at.LookQueue (Detach 0 task.ticket.number))) self.old.acts self.new.acts Back)
-            (λ _. Traced self.old.shape (Worker 0 self.old.seat) (Stay (at.LookQueue (Detach 0 task.ticket.number))) self.old.acts self.new.acts (Stay (undo (Detach 0 task.ticket.number)))) }
+            (λ _. Traced self.old.shape (Worker 0 self.old.id.index) (Stay (at.LookQueue (Detach 0 task.ticket.number))) self.old.acts self.new.acts Back)
+            (λ _. Traced self.old.shape (Worker 0 self.old.id.index) (Stay (at.LookQueue (Detach 0 task.ticket.number))) self.old.acts self.new.acts (Stay (undo (Detach 0 task.ticket.number)))) }
     {
         match self.bench.push(rt, task) {
             Ok(()) => Ok(()),
@@ -246,7 +247,7 @@ impl<J: JobKind> WorkerThread<J> {
     /// a wake: who takes the token runs the first job of the list, as with `spawn_fifo`. A task that is a token itself
     /// has its job in a list already, and is pushed as by `push`. Refused `Full`, `NoRoom`, with the task back and
     /// nothing added. It raises no count: a task that was taken has what it needs.
-    #[tactic(auto, unfolding(crate::specs::Pushes::pushed_by, crate::specs::Pushes::left_to, crate::specs::Pushes::takes_oldest, crate::specs::Pushes::units_of, crate::specs::Pushes::count_of, crate::specs::Pushes::shape_at, crate::specs::Pushes::seat_of, crate::specs::Pushes::acts_of, crate::specs::Pushes::saw_set))]
+    #[tactic(auto, unfolding(crate::specs::Pushes::pushed_by, crate::specs::Pushes::left_to, crate::specs::Pushes::takes_oldest, crate::specs::Pushes::units_of, crate::specs::Pushes::count_of, crate::specs::Pushes::shape_at, crate::specs::Pushes::index_of, crate::specs::Pushes::acts_of, crate::specs::Pushes::saw_set))]
     pub fn push_fifo<R: Wait>(
         &mut self,
         rt: &R,
@@ -254,11 +255,11 @@ impl<J: JobKind> WorkerThread<J> {
         task: Task<J>,
     ) -> Result<(), (Refusal, Task<J>)>
         ensures listed { HasJob task.work → MatchResult result
-            (λ _. (k : ℕ) × Traced self.old.shape (Worker 0 self.old.seat) (Stay (at.AddToFifo (feeding task.ticket.number k))) self.old.acts self.new.acts Back × (self.new ≡ record self.old { pushed = self.old.pushed ++ token_task (Worker 0 self.old.seat) k ∷ []; left = self.old.left ++ token_task (Worker 0 self.old.seat) k ∷ []; acts = self.new.acts }))
-            (λ _. Unlisted self.old.shape (Worker 0 self.old.seat) task.ticket.number self.old.acts self.new.acts) }
+            (λ _. (k : ℕ) × Traced self.old.shape (Worker 0 self.old.id.index) (Stay (at.AddToFifo (feeding task.ticket.number k))) self.old.acts self.new.acts Back × (self.new ≡ record self.old { pushed = self.old.pushed ++ token_task (Worker 0 self.old.id.index) k ∷ []; left = self.old.left ++ token_task (Worker 0 self.old.id.index) k ∷ []; acts = self.new.acts }))
+            (λ _. Unlisted self.old.shape (Worker 0 self.old.id.index) task.ticket.number self.old.acts self.new.acts) }
         ensures pushed { (HasJob task.work → ⊥) → MatchResult result
-            (λ _. Traced self.old.shape (Worker 0 self.old.seat) (Stay (at.LookQueue (Detach 0 task.ticket.number))) self.old.acts self.new.acts Back × (self.new ≡ record self.old { pushed = self.old.pushed ++ task ∷ []; left = self.old.left ++ task ∷ []; acts = self.new.acts }))
-            (λ _. Traced self.old.shape (Worker 0 self.old.seat) (Stay (at.LookQueue (Detach 0 task.ticket.number))) self.old.acts self.new.acts (Stay (undo (Detach 0 task.ticket.number)))) }
+            (λ _. Traced self.old.shape (Worker 0 self.old.id.index) (Stay (at.LookQueue (Detach 0 task.ticket.number))) self.old.acts self.new.acts Back × (self.new ≡ record self.old { pushed = self.old.pushed ++ task ∷ []; left = self.old.left ++ task ∷ []; acts = self.new.acts }))
+            (λ _. Traced self.old.shape (Worker 0 self.old.id.index) (Stay (at.LookQueue (Detach 0 task.ticket.number))) self.old.acts self.new.acts (Stay (undo (Detach 0 task.ticket.number)))) }
         ensures back { IfErr result (λ e. (e.1 ≡ task) × (self.new ≡ record self.old { acts = self.new.acts })) }
         ensures refused { IfErr result (λ e. (e.0 ≡ Refusal.Full) ⊎ (e.0 ≡ Refusal.NoRoom)) }
     {
@@ -278,13 +279,13 @@ impl<J: JobKind> WorkerThread<J> {
     /// the terminate count, which the end of its run gives back, so that the pool cannot end before. Nobody is answered
     /// its output; its fault goes to the pool's handler, or is kept where it has none (`take_fault`). Refused `Full`,
     /// `NoRoom`, `Ended`, with the job back and nothing added.
-    #[tactic(auto, unfolding(crate::specs::Pushes::pushed_by, crate::specs::Pushes::left_to, crate::specs::Pushes::takes_oldest, crate::specs::Pushes::units_of, crate::specs::Pushes::count_of, crate::specs::Pushes::shape_at, crate::specs::Pushes::seat_of, crate::specs::Pushes::acts_of, crate::specs::Pushes::saw_set))]
+    #[tactic(auto, unfolding(crate::specs::Pushes::pushed_by, crate::specs::Pushes::left_to, crate::specs::Pushes::takes_oldest, crate::specs::Pushes::units_of, crate::specs::Pushes::count_of, crate::specs::Pushes::shape_at, crate::specs::Pushes::index_of, crate::specs::Pushes::acts_of, crate::specs::Pushes::saw_set))]
     pub fn spawn<R: Wait>(&mut self, rt: &R, alloc: Global, job: J) -> Result<(), (Refusal, J)>
-        ensures spawned { IfOk result (λ _. (n : ℕ) × Spawned self.old.shape (Worker 0 self.old.seat) n self.old.acts self.new.acts × (self.new ≡ record self.old { pushed = self.old.pushed ++ detached_task job false (Worker 0 self.old.seat) n ∷ []; left = self.old.left ++ detached_task job false (Worker 0 self.old.seat) n ∷ []; count = self.new.count; acts = self.new.acts })) }
+        ensures spawned { IfOk result (λ _. (n : ℕ) × Spawned self.old.shape (Worker 0 self.old.id.index) n self.old.acts self.new.acts × (self.new ≡ record self.old { pushed = self.old.pushed ++ detached_task job false (Worker 0 self.old.id.index) n ∷ []; left = self.old.left ++ detached_task job false (Worker 0 self.old.id.index) n ∷ []; count = self.new.count; acts = self.new.acts })) }
         ensures unit { IfOk result (λ _. TakesUnit true self.old.count self.new.count) }
         ensures back { IfErr result (λ e. e.1 ≡ job) }
         ensures kept { IfErr result (λ _. Kept self.old self.new) }
-        ensures path { IfErr result (λ _. HandedBack self.old.shape (Worker 0 self.old.seat) (Detach 0) self.old.acts self.new.acts) }
+        ensures path { IfErr result (λ _. HandedBack self.old.shape (Worker 0 self.old.id.index) (Detach 0) self.old.acts self.new.acts) }
         ensures refused { IfErr result (λ e. (e.0 ≡ Refusal.Ended) ⊎ ((e.0 ≡ Refusal.Full) ⊎ (e.0 ≡ Refusal.NoRoom))) }
     {
         let Some(name) = self.names.draw() else {
@@ -300,13 +301,13 @@ impl<J: JobKind> WorkerThread<J> {
     /// or kept, as with `spawn`. Refused `Full`, `NoRoom`, `Ended`, with the very job back and nothing added.
     ///
     /// What lies in the list no contract sees, since other threads take from it.
-    #[tactic(auto, unfolding(crate::specs::Pushes::pushed_by, crate::specs::Pushes::left_to, crate::specs::Pushes::takes_oldest, crate::specs::Pushes::units_of, crate::specs::Pushes::count_of, crate::specs::Pushes::shape_at, crate::specs::Pushes::seat_of, crate::specs::Pushes::acts_of, crate::specs::Pushes::saw_set))]
+    #[tactic(auto, unfolding(crate::specs::Pushes::pushed_by, crate::specs::Pushes::left_to, crate::specs::Pushes::takes_oldest, crate::specs::Pushes::units_of, crate::specs::Pushes::count_of, crate::specs::Pushes::shape_at, crate::specs::Pushes::index_of, crate::specs::Pushes::acts_of, crate::specs::Pushes::saw_set))]
     pub fn spawn_fifo<R: Wait>(&mut self, rt: &R, alloc: Global, job: J) -> Result<(), (Refusal, J)>
-        ensures spawned { IfOk result (λ _. (n : ℕ) × (k : ℕ) × Fed self.old.shape (Worker 0 self.old.seat) n k self.old.acts self.new.acts × (self.new ≡ record self.old { pushed = self.old.pushed ++ token_task (Worker 0 self.old.seat) k ∷ []; left = self.old.left ++ token_task (Worker 0 self.old.seat) k ∷ []; count = self.new.count; acts = self.new.acts })) }
+        ensures spawned { IfOk result (λ _. (n : ℕ) × (k : ℕ) × Fed self.old.shape (Worker 0 self.old.id.index) n k self.old.acts self.new.acts × (self.new ≡ record self.old { pushed = self.old.pushed ++ token_task (Worker 0 self.old.id.index) k ∷ []; left = self.old.left ++ token_task (Worker 0 self.old.id.index) k ∷ []; count = self.new.count; acts = self.new.acts })) }
         ensures unit { IfOk result (λ _. TakesUnit true self.old.count self.new.count) }
         ensures back { IfErr result (λ e. e.1 ≡ job) }
         ensures kept { IfErr result (λ _. Kept self.old self.new) }
-        ensures path { IfErr result (λ _. (k : ℕ) × HandedBack self.old.shape (Worker 0 self.old.seat) (λ j. Feed (feeding j k)) self.old.acts self.new.acts) }
+        ensures path { IfErr result (λ _. (k : ℕ) × HandedBack self.old.shape (Worker 0 self.old.id.index) (λ j. Feed (feeding j k)) self.old.acts self.new.acts) }
         ensures refused { IfErr result (λ e. (e.0 ≡ Refusal.Ended) ⊎ ((e.0 ≡ Refusal.Full) ⊎ (e.0 ≡ Refusal.NoRoom))) }
     {
         let Some(name) = self.names.draw() else {
@@ -322,15 +323,15 @@ impl<J: JobKind> WorkerThread<J> {
     /// Takes the newest task of the worker's own deque, or the oldest where that is its order. Where nothing lies there
     /// the oldest piece of a broadcast that the worker is to run, if there is one. None where there is neither. It may
     /// be a token.
-    #[tactic(auto, unfolding(crate::specs::Pushes::pushed_by, crate::specs::Pushes::left_to, crate::specs::Pushes::takes_oldest, crate::specs::Pushes::units_of, crate::specs::Pushes::count_of, crate::specs::Pushes::shape_at, crate::specs::Pushes::seat_of, crate::specs::Pushes::acts_of, crate::specs::Pushes::saw_set))]
+    #[tactic(auto, unfolding(crate::specs::Pushes::pushed_by, crate::specs::Pushes::left_to, crate::specs::Pushes::takes_oldest, crate::specs::Pushes::units_of, crate::specs::Pushes::count_of, crate::specs::Pushes::shape_at, crate::specs::Pushes::index_of, crate::specs::Pushes::acts_of, crate::specs::Pushes::saw_set))]
     pub fn take_local_job<R: Wait>(&mut self, rt: &R) -> Option<Task<J>>
         ensures some { IfSome result (λ t. Leaves self.old.oldest_first self.old.left t self.new.left ⊎ (self.new.left ≡ self.old.left)) }
         ensures none { IfNone result (self.new.left ≡ self.old.left) }
         ensures empty { self.old.left ≡ [] → self.new.left ≡ [] }
         ensures kept { self.new ≡ record self.old { left = self.new.left; acts = self.new.acts } }
         ensures path { MatchOption result
-            (Traced self.old.shape (Worker 0 self.old.seat) (Stay at.LocalPop) self.old.acts self.new.acts Back)
-            (λ t. Traced self.old.shape (Worker 0 self.old.seat) (Stay at.LocalPop) self.old.acts self.new.acts (Stay (at.BeginTask (taken_in t)))) }
+            (Traced self.old.shape (Worker 0 self.old.id.index) (Stay at.LocalPop) self.old.acts self.new.acts Back)
+            (λ t. Traced self.old.shape (Worker 0 self.old.id.index) (Stay at.LocalPop) self.old.acts self.new.acts (Stay (at.BeginTask (taken_in t)))) }
     {
         self.bench.take_local(rt)
     }
@@ -338,14 +339,14 @@ impl<J: JobKind> WorkerThread<J> {
     /// Looks for a task: in the worker's own deque, among the pieces of broadcasts that it is to run, in the other
     /// workers' deques, from a chosen one on, each once, and last among the injected ones. None where each look missed.
     /// It may be a token. A piece answers for the worker that runs it.
-    #[tactic(auto, unfolding(crate::specs::Pushes::pushed_by, crate::specs::Pushes::left_to, crate::specs::Pushes::takes_oldest, crate::specs::Pushes::units_of, crate::specs::Pushes::count_of, crate::specs::Pushes::shape_at, crate::specs::Pushes::seat_of, crate::specs::Pushes::acts_of, crate::specs::Pushes::saw_set))]
+    #[tactic(auto, unfolding(crate::specs::Pushes::pushed_by, crate::specs::Pushes::left_to, crate::specs::Pushes::takes_oldest, crate::specs::Pushes::units_of, crate::specs::Pushes::count_of, crate::specs::Pushes::shape_at, crate::specs::Pushes::index_of, crate::specs::Pushes::acts_of, crate::specs::Pushes::saw_set))]
     pub fn find_work<R: Wait>(&mut self, rt: &R) -> Option<Task<J>>
         ensures some { IfSome result (λ t. Leaves self.old.oldest_first self.old.left t self.new.left ⊎ (self.new.left ≡ self.old.left)) }
         ensures none { IfNone result (self.new.left ≡ self.old.left) }
         ensures kept { self.new ≡ record self.old { left = self.new.left; acts = self.new.acts } }
         ensures path { MatchOption result
-            (Traced self.old.shape (Worker 0 self.old.seat) (Stay at.YieldPop) self.old.acts self.new.acts Back)
-            (λ t. Traced self.old.shape (Worker 0 self.old.seat) (Stay at.YieldPop) self.old.acts self.new.acts (Stay (at.BeginTask (taken_in t)))) }
+            (Traced self.old.shape (Worker 0 self.old.id.index) (Stay at.YieldPop) self.old.acts self.new.acts Back)
+            (λ t. Traced self.old.shape (Worker 0 self.old.id.index) (Stay at.YieldPop) self.old.acts self.new.acts (Stay (at.BeginTask (taken_in t)))) }
     {
         self.bench.find_work(rt)
     }
@@ -353,7 +354,7 @@ impl<J: JobKind> WorkerThread<J> {
     /// Runs queued tasks until the latch is set, and sleeps where nothing is queued: who sets the latch wakes the
     /// worker if it does so through its `owner`, as a `SpinLatch` does. Refused `TooDeep` exactly where no level is
     /// left.
-    #[tactic(auto, unfolding(crate::specs::Pushes::units_of, crate::specs::Pushes::shape_at, crate::specs::Pushes::seat_of))]
+    #[tactic(auto, unfolding(crate::specs::Pushes::units_of, crate::specs::Pushes::shape_at, crate::specs::Pushes::index_of))]
     pub fn wait_until<R: Waits<J>>(
         &mut self,
         rt: &R,
@@ -363,7 +364,7 @@ impl<J: JobKind> WorkerThread<J> {
         requires levels { self.old.levels ≤ R.levels rt.now }
         ensures refused { MatchResult result (λ _. 0 < self.old.levels) (λ r. (r ≡ Refusal.TooDeep) × (self.old.levels ≡ 0) × (self.new ≡ self.old)) }
         ensures same { SameWorker self.old self.new }
-        ensures path { IfOk result (λ _. Worked self.old.shape (Worker 0 self.old.seat) (Stay (at.ProbeWorking (fresh Termination))) self.old.acts self.new.acts (Stay at.Stopped)) }
+        ensures path { IfOk result (λ _. Worked self.old.shape (Worker 0 self.old.id.index) (Stay (at.ProbeWorking (fresh Termination))) self.old.acts self.new.acts (Stay at.Stopped)) }
         ensures set { IfOk result (λ _. self.new.probed ≡ true) }
         ensures latch { IfOk result (λ _. latch.new.seen ≡ true) }
     {
@@ -389,7 +390,7 @@ impl<J: JobKind> WorkerThread<J> {
     pub(crate) fn main_loop<R: Waits<J>>(&mut self, rt: &R, alloc: Global)
         requires levels { self.old.levels ≤ R.levels rt.now }
         ensures same { SameWorker self.old self.new }
-        ensures path { 0 < self.old.levels → Worked self.old.shape (Worker 0 self.old.seat) (Stay (at.ProbeWorking (fresh Termination))) self.old.acts self.new.acts (Stay at.Stopped) }
+        ensures path { 0 < self.old.levels → Worked self.old.shape (Worker 0 self.old.id.index) (Stay (at.ProbeWorking (fresh Termination))) self.old.acts self.new.acts (Stay at.Stopped) }
     {
         if self.levels > 0 {
             self.wait_for(rt, alloc, Target::Termination, None);
@@ -398,7 +399,7 @@ impl<J: JobKind> WorkerThread<J> {
 
     // Waits for this, with the call if it is a call's result, and runs the tasks that it meets meanwhile.
     // Answers the result that was found.
-    #[tactic(auto, unfolding(crate::specs::Pushes::units_of, crate::specs::Pushes::shape_at, crate::specs::Pushes::seat_of))]
+    #[tactic(auto, unfolding(crate::specs::Pushes::units_of, crate::specs::Pushes::shape_at, crate::specs::Pushes::index_of))]
     pub(crate) fn wait_for<R: Waits<J>>(
         &mut self,
         rt: &R,
@@ -410,7 +411,7 @@ impl<J: JobKind> WorkerThread<J> {
         requires levels { self.old.levels ≤ R.levels rt.now }
         requires ticket { HasTicket (ticket_in held) (call_to target) }
         ensures after { AfterWait target self.old self.new }
-        ensures path { Worked self.old.shape (Worker 0 self.old.seat) (Stay (at.ProbeWorking (fresh target))) self.old.acts self.new.acts (wait_end target) }
+        ensures path { Worked self.old.shape (Worker 0 self.old.id.index) (Stay (at.ProbeWorking (fresh target))) self.old.acts self.new.acts (wait_end target) }
     {
         let mut held = held;
         for _ in rt.forever() {
@@ -436,7 +437,7 @@ impl<J: JobKind> WorkerThread<J> {
         requires levels { self.old.levels ≤ R.levels rt.now }
         requires job { BringsJob begun }
         ensures same { SameWorker self.old self.new }
-        ensures path { MatchOption begun (self.new.acts ≡ self.old.acts) (λ t. (e : Ending) × (x : Log) × AddsRun self.old.acts x × Closes self.old.shape (Worker 0 self.old.seat) t.ticket.number (kind_in t.ticket) e x self.new.acts) }
+        ensures path { MatchOption begun (self.new.acts ≡ self.old.acts) (λ t. (e : Ending) × (x : Log) × AddsRun self.old.acts x × Closes self.old.shape (Worker 0 self.old.id.index) t.ticket.number (kind_in t.ticket) e x self.new.acts) }
     {
         match begun {
             Some(task) => self.run_task(rt, alloc, task),
@@ -445,13 +446,13 @@ impl<J: JobKind> WorkerThread<J> {
     }
 
     // Runs a task that was taken and has begun, and tells its call.
-    #[tactic(auto, unfolding(crate::specs::Pushes::units_of, crate::specs::Pushes::shape_at, crate::specs::Pushes::seat_of))]
+    #[tactic(auto, unfolding(crate::specs::Pushes::units_of, crate::specs::Pushes::shape_at, crate::specs::Pushes::index_of))]
     fn run_task<R: Waits<J>>(&mut self, rt: &R, alloc: Global, task: Task<J>)
         requires some { 0 < self.old.levels }
         requires levels { self.old.levels ≤ R.levels rt.now }
         requires job { HasJob task.work }
         ensures same { SameWorker self.old self.new }
-        ensures path { (e : Ending) × (x : Log) × AddsRun self.old.acts x × Closes self.old.shape (Worker 0 self.old.seat) task.ticket.number (kind_in task.ticket) e x self.new.acts }
+        ensures path { (e : Ending) × (x : Log) × AddsRun self.old.acts x × Closes self.old.shape (Worker 0 self.old.id.index) task.ticket.number (kind_in task.ticket) e x self.new.acts }
     {
         let kind = task.kind();
         let migrated = task.injected() || !task.owner().is_worker(0, self.id.index);
@@ -463,7 +464,7 @@ impl<J: JobKind> WorkerThread<J> {
 
     // The run of this ticket's job, of this kind, has ended so. A detached job's fault is told to the pool's handler,
     // or kept, before its unit of the terminate count is given back; a call that waits for the job is told.
-    #[tactic(auto, unfolding(crate::specs::Pushes::units_of, crate::specs::Pushes::count_of, crate::specs::Pushes::shape_at, crate::specs::Pushes::seat_of, crate::specs::Pushes::acts_of))]
+    #[tactic(auto, unfolding(crate::specs::Pushes::units_of, crate::specs::Pushes::count_of, crate::specs::Pushes::shape_at, crate::specs::Pushes::index_of, crate::specs::Pushes::acts_of))]
     fn end_run<R: Wait>(
         &mut self,
         rt: &R,
@@ -474,7 +475,7 @@ impl<J: JobKind> WorkerThread<J> {
     )
         requires { kind ≡ kind_in ticket }
         ensures same { SameWorker self.old self.new }
-        ensures path { Closes self.old.shape (Worker 0 self.old.seat) ticket.number kind (ended done.answer) self.old.acts self.new.acts }
+        ensures path { Closes self.old.shape (Worker 0 self.old.id.index) ticket.number kind (ended done.answer) self.old.acts self.new.acts }
         ensures unit { ClosesUnit kind self.old.count self.new.count }
     {
         let (job, ending) = (ticket.number(), done.ending());
@@ -517,7 +518,7 @@ impl<J: JobKind> WorkerThread<J> {
     // the first one's cell: the caller finds that result missing.
     #[cold]
     #[inline(never)]
-    #[tactic(auto, unfolding(crate::specs::Pushes::units_of, crate::specs::Pushes::shape_at, crate::specs::Pushes::seat_of, crate::specs::Pushes::acts_of))]
+    #[tactic(auto, unfolding(crate::specs::Pushes::units_of, crate::specs::Pushes::shape_at, crate::specs::Pushes::index_of, crate::specs::Pushes::acts_of))]
     fn run_sides<R: Waits<J>>(
         &mut self,
         rt: &R,

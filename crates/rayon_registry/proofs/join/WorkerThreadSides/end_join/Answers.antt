@@ -14,7 +14,7 @@ returns-clause-path g c =
     let w = c.meet.new.self in
     let n = c.fork.inside.call.ticket.number in
     let e = ended_so c.args.first_faulted in
-    let seat : s.seat ≡ w.seat = search rules in
+    let index : s.id.index ≡ w.id.index = search rules in
     let shape : s.shape ≡ w.shape = search rules in
-    let met = worked_as s.shape w.shape s.seat w.seat (Stay (goes_on (FirstSide (own_call n) n) e)) s.acts w.acts Back seat shape c.meet.ensures.path in
-    (s.acts, c.take_back.ensures.run, subst (λ f. Met w.shape (Worker 0 w.seat) f.ticket.number e s.acts w.acts) c.fork.view_is met)
+    let met = worked_as s.shape w.shape s.id.index w.id.index (Stay (goes_on (FirstSide (own_call n) n) e)) s.acts w.acts Back index shape c.meet.ensures.path in
+    (s.acts, c.take_back.ensures.run, subst (λ f. Met w.shape (Worker 0 w.id.index) f.ticket.number e s.acts w.acts) c.fork.view_is met)

@@ -15,10 +15,10 @@ returns-clause-path g c =
     let s = c.take_back.new.self in
     let w = c.finish-outputs.new.self in
     let n = c.args.opened.opening in
-    let seat : s.seat ≡ w.seat = search rules in
+    let index : s.id.index ≡ w.id.index = search rules in
     let shape : s.shape ≡ w.shape = search rules in
-    let left = worked_as s.shape w.shape s.seat w.seat (Stay (goes_on (ScopeBody (own_call n)) c.ending_if.result)) s.acts w.acts Back seat shape c.finish-outputs.ensures.path in
-    (s.acts, c.take_back.ensures.run, subst (λ (e : Ending). ScopeLeft w.shape (Worker 0 w.seat) n e s.acts w.acts) c.ending_if.ensures left)
+    let left = worked_as s.shape w.shape s.id.index w.id.index (Stay (goes_on (ScopeBody (own_call n)) c.ending_if.result)) s.acts w.acts Back index shape c.finish-outputs.ensures.path in
+    (s.acts, c.take_back.ensures.run, subst (λ (e : Ending). ScopeLeft w.shape (Worker 0 w.id.index) n e s.acts w.acts) c.ending_if.ensures left)
 
 pub returns-clause-foreign : goal.returns-clause-foreign
 returns-clause-foreign g c e =

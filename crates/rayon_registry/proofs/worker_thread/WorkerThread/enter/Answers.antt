@@ -2,24 +2,24 @@ use Rattle.std.proofs.Common.{rules, subst}
 use Rattle.rayon_machine_places.specs.declared.place.Party.TheVariants.{Worker}
 use Rattle.rayon_performers.specs.Scopes.{Entered, entering}
 use Rattle.rayon_registry.specs.Acts.{HandedBack}
-use Rattle.rayon_registry.specs.Pushes.{acts_of, count_of, left_to, pushed_by, saw_set, seat_of, shape_at, takes_oldest, units_of}
+use Rattle.rayon_registry.specs.Pushes.{acts_of, count_of, left_to, pushed_by, saw_set, index_of, shape_at, takes_oldest, units_of}
 use Rattle.rayon_registry.proofs.Made.{entered, if_err, unentered}
 use Rattle.rayon_registry.proofs.worker_thread.WorkerThread.enter.Goals as goal
 
 pub returns-clause-entered : goal.returns-clause-entered
-unfolding acts_of count_of left_to pushed_by saw_set seat_of shape_at takes_oldest units_of
+unfolding acts_of count_of left_to pushed_by saw_set index_of shape_at takes_oldest units_of
 returns-clause-entered g c =
     let b = c.self.inside.bench in
     let n = c.in-Some.name in
     let u = c.enter.new.self in
     let p = c.in_ok-number.ensures.pushed in
-    (p.0, n, p.1, subst (λ v. Entered v.shape (Worker 0 v.seat) c.args.call c.args.owner n v.acts u.trace) c.self.view_is (entered n b u c.args.ticket.now c.args.call c.args.owner c.in_ok-number.ensures.path), search rules)
+    (p.0, n, p.1, subst (λ v. Entered v.shape (Worker 0 v.id.index) c.args.call c.args.owner n v.acts u.trace) c.self.view_is (entered n b u c.args.ticket.now c.args.call c.args.owner c.in_ok-number.ensures.path), search rules)
 
 pub returns-in_err-number-clause-path : goal.returns-in_err-number-clause-path
-unfolding acts_of count_of left_to pushed_by saw_set seat_of shape_at takes_oldest units_of
+unfolding acts_of count_of left_to pushed_by saw_set index_of shape_at takes_oldest units_of
 returns-in_err-number-clause-path g c =
     let b = c.self.inside.bench in
     let n = c.in-Some.name in
     let u = c.enter.new.self in
-    let path = subst (λ v. HandedBack v.shape (Worker 0 v.seat) (entering c.args.call c.args.owner) v.acts u.trace) c.self.view_is (unentered n b u c.args.ticket.now c.args.call c.args.owner c.in_err-number.ensures.path) in
+    let path = subst (λ v. HandedBack v.shape (Worker 0 v.id.index) (entering c.args.call c.args.owner) v.acts u.trace) c.self.view_is (unentered n b u c.args.ticket.now c.args.call c.args.owner c.in_err-number.ensures.path) in
     if_err _ c.from_residual.result path

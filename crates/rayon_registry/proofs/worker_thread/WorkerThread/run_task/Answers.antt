@@ -13,9 +13,9 @@ returns-clause-path g c =
     let w = c.run_work-done.new.self in
     let u = c.end_run.new.self in
     let e = ending_of c.run_work-done.result.0.answer in
-    let seat : w.seat ≡ a.seat = search rules in
+    let index : w.id.index ≡ a.id.index = search rules in
     let shape : w.shape ≡ a.shape = search rules in
     let numbered : c.task_parts-work.result.2.number ≡ c.args.task.ticket.number = search rules in
     let kind : c.kind-kind.result ≡ kind_in c.args.task.ticket = search rules in
-    let here = closes_as w.shape a.shape w.seat a.seat c.task_parts-work.result.2.number c.args.task.ticket.number c.kind-kind.result e w.acts u.acts seat shape numbered c.end_run.ensures.path in
-    (e, w.acts, c.run_work-done.ensures.acts, subst (λ (k : JobKind). Closes a.shape (Worker 0 a.seat) c.args.task.ticket.number k e w.acts u.acts) kind here)
+    let here = closes_as w.shape a.shape w.id.index a.id.index c.task_parts-work.result.2.number c.args.task.ticket.number c.kind-kind.result e w.acts u.acts index shape numbered c.end_run.ensures.path in
+    (e, w.acts, c.run_work-done.ensures.acts, subst (λ (k : JobKind). Closes a.shape (Worker 0 a.id.index) c.args.task.ticket.number k e w.acts u.acts) kind here)

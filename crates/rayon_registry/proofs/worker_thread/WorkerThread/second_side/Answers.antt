@@ -1,4 +1,4 @@
-use Rattle.std.proofs.Common.{◌≡◌, Bool, true, false, if◌then◌else◌, Some, refl, rules, subst, sym}
+use Rattle.std.proofs.Common.{◌≡◌, Bool, true, false, if◌then◌else◌, Some, ap, refl, rules, subst, sym}
 use Rattle.rayon_machine_places.specs.declared.place.Ending.TheVariants.{Fine}
 use Rattle.rayon_machine_places.specs.declared.place.Move.TheVariants.{Back, Enter, Stay}
 use Rattle.rayon_machine_places.specs.declared.place.Party.TheVariants.{Worker}
@@ -9,13 +9,13 @@ use Rattle.rayon_drive.specs.declared.trace.Log.{Log}
 use Rattle.rayon_drive.specs.Paths.{Traced}
 use Rattle.rayon_drive.proofs.Traced.{traced_as}
 use Rattle.rayon_registry.specs.Acts.{Lowered, Worked}
-use Rattle.rayon_registry.specs.Pushes.{acts_of, seat_of, shape_at, units_of}
+use Rattle.rayon_registry.specs.Pushes.{acts_of, index_of, shape_at, units_of}
 use Rattle.rayon_performers.proofs.Stretches.{traced}
 use Rattle.rayon_registry.proofs.Made.{around_task, last, lowered_as, runs_second, worked_as}
 use Rattle.rayon_registry.proofs.worker_thread.WorkerThread.second_side.Goals as goal
 
 pub returns-in-Own-clause-path : goal.returns-in-Own-clause-path
-unfolding acts_of seat_of shape_at units_of
+unfolding acts_of index_of shape_at units_of
 returns-in-Own-clause-path g c =
     let a = c.args.self.now in
     let l = c.loop.self in
@@ -26,18 +26,18 @@ returns-in-Own-clause-path g c =
     let first = Stay (at.JoinProbe o) in
     let n = Enter (at.SecondSide o) (at.BeginHere o.job) in
     let mine = subst (λ z. Traced z.shape (Worker 0 z.index) first z.trace u.trace n) c.set_call.ensures (traced s.shape s.index first s u n c.in-Own.ensures.path) in
-    let here = subst (λ v. Traced v.shape (Worker 0 v.seat) first v.acts u.trace n) c.self.view_is mine in
-    let found = traced_as l.shape a.shape l.seat a.seat first l.acts u.trace n n c.loop.invariant.5 c.loop.invariant.6 refl here in
+    let here = subst (λ v. Traced v.shape (Worker 0 v.id.index) first v.acts u.trace n) c.self.view_is mine in
+    let found = traced_as l.shape a.shape l.id.index a.id.index first l.acts u.trace n n (ap (λ z. z.index) c.loop.invariant.3) c.loop.invariant.5 refl here in
     let t = c.take_task.new.self in
-    let seat : t.index ≡ a.seat = search rules in
+    let index : t.index ≡ a.id.index = search rules in
     let shape : t.shape ≡ a.shape = search rules in
     let w = c.run_second.new.self.acts in
     let same : t.trace ≡ u.trace = search rules in
-    let lowered = subst (λ (v : Log). Lowered a.shape (Worker 0 a.seat) o v w) same (lowered_as t.shape a.shape t.index a.seat o t.trace w seat shape c.run_second.ensures.path) in
-    c.loop.invariant.8 w Back (runs_second a.shape (Worker 0 a.seat) o l.acts u.trace w c.requires.pool found lowered)
+    let lowered = subst (λ (v : Log). Lowered a.shape (Worker 0 a.id.index) o v w) same (lowered_as t.shape a.shape t.index a.id.index o t.trace w index shape c.run_second.ensures.path) in
+    c.loop.invariant.7 w Back (runs_second a.shape (Worker 0 a.id.index) o l.acts u.trace w c.requires.pool found lowered)
 
 pub returns-then-waits-clause-path : goal.returns-then-waits-clause-path
-unfolding acts_of seat_of shape_at units_of
+unfolding acts_of index_of shape_at units_of
 returns-then-waits-clause-path g c =
     let p = at.BeginTask c.in-Other.name in
     let wait = at.ProbeWorking (fresh (Answer c.args.call (Some Fine))) in
@@ -52,19 +52,19 @@ returns-then-waits-clause-path g c =
     let waits : c.in-Other.waits ≡ true = search rules in
     let moved = subst (λ (z : Bool). Traced s.shape (Worker 0 s.index) first s.trace u.trace (Enter (if z then wait else at.JoinProbe o) p)) waits (traced s.shape s.index first s u _ c.in-Other.ensures.path) in
     let mine = subst (λ z. Traced z.shape (Worker 0 z.index) first z.trace u.trace n) c.set_call.ensures moved in
-    let here = subst (λ v. Traced v.shape (Worker 0 v.seat) first v.acts u.trace n) c.self.view_is mine in
-    let found = traced_as l.shape a.shape l.seat a.seat first l.acts u.trace n n c.loop.invariant.5 c.loop.invariant.6 refl here in
+    let here = subst (λ v. Traced v.shape (Worker 0 v.id.index) first v.acts u.trace n) c.self.view_is mine in
+    let found = traced_as l.shape a.shape l.id.index a.id.index first l.acts u.trace n n (ap (λ z. z.index) c.loop.invariant.3) c.loop.invariant.5 refl here in
     let x = c.run_begun.new.self in
     let w = c.wait_for.new.self.acts in
-    let seat : x.seat ≡ a.seat = search rules in
+    let index : x.id.index ≡ a.id.index = search rules in
     let shape : x.shape ≡ a.shape = search rules in
     let t = c.take_call-held.new.self in
     let y = c.begin_task-begun.new.self in
-    c.loop.invariant.8 w Back (around_task a.shape a.seat wait c.begin_task-begun.result t y c.in-Other.name p first l.acts u.trace x.acts w Back refl (search rules) (search rules) (search rules) (search rules) (search rules) (λ e. refl) found c.begin_task-begun.ensures.path c.run_begun.ensures.path
-    (worked_as x.shape a.shape x.seat a.seat (Stay wait) x.acts w Back seat shape c.wait_for.ensures.path))
+    c.loop.invariant.7 w Back (around_task a.shape a.id.index wait c.begin_task-begun.result t y c.in-Other.name p first l.acts u.trace x.acts w Back refl (search rules) (search rules) (search rules) (search rules) (search rules) (λ e. refl) found c.begin_task-begun.ensures.path c.run_begun.ensures.path
+    (worked_as x.shape a.shape x.id.index a.id.index (Stay wait) x.acts w Back index shape c.wait_for.ensures.path))
 
 pub loop-preserved : goal.loop-preserved
-unfolding acts_of seat_of shape_at units_of
+unfolding acts_of index_of shape_at units_of
 loop-preserved g c =
     let p = at.BeginTask c.in-Other.name in
     let a = c.args.self.now in
@@ -79,8 +79,8 @@ loop-preserved g c =
     let looks : c.in-Other.waits ≡ false = search rules in
     let moved = subst (λ (z : Bool). Traced s.shape (Worker 0 s.index) first s.trace u.trace (Enter (if z then wait else at.JoinProbe o) p)) looks (traced s.shape s.index first s u _ c.in-Other.ensures.path) in
     let mine = subst (λ z. Traced z.shape (Worker 0 z.index) first z.trace u.trace n) c.set_call.ensures moved in
-    let here = subst (λ v. Traced v.shape (Worker 0 v.seat) first v.acts u.trace n) c.self.view_is mine in
-    let found = traced_as l.shape a.shape l.seat a.seat first l.acts u.trace n n c.loop.invariant.5 c.loop.invariant.6 refl here in
+    let here = subst (λ v. Traced v.shape (Worker 0 v.id.index) first v.acts u.trace n) c.self.view_is mine in
+    let found = traced_as l.shape a.shape l.id.index a.id.index first l.acts u.trace n n (ap (λ z. z.index) c.loop.invariant.3) c.loop.invariant.5 refl here in
     let t = c.take_call-held.new.self in
     let y = c.begin_task-begun.new.self in (
       tt,
@@ -90,12 +90,11 @@ loop-preserved g c =
       search rules,
       search rules,
       search rules,
-      search rules,
-      λ w m x. c.loop.invariant.8 w m (around_task a.shape a.seat (at.JoinProbe o) c.begin_task-begun.result t y c.in-Other.name p first l.acts u.trace c.run_begun.new.self.acts w m refl (search rules) (search rules) (search rules) (search rules) (search rules) (λ e. refl) found c.begin_task-begun.ensures.path c.run_begun.ensures.path x),
+      λ w m x. c.loop.invariant.7 w m (around_task a.shape a.id.index (at.JoinProbe o) c.begin_task-begun.result t y c.in-Other.name p first l.acts u.trace c.run_begun.new.self.acts w m refl (search rules) (search rules) (search rules) (search rules) (search rules) (λ e. refl) found c.begin_task-begun.ensures.path c.run_begun.ensures.path x),
     )
 
 pub returns-in-Answered-clause-path : goal.returns-in-Answered-clause-path
-unfolding acts_of seat_of shape_at units_of
+unfolding acts_of index_of shape_at units_of
 returns-in-Answered-clause-path g c =
     let a = c.args.self.now in
     let l = c.loop.self in
@@ -105,7 +104,7 @@ returns-in-Answered-clause-path g c =
     let o = c.args.call in
     let first = Stay (at.JoinProbe o) in
     let mine = subst (λ z. Traced z.shape (Worker 0 z.index) first z.trace u.trace Back) c.set_call.ensures (traced s.shape s.index first s u Back c.in-Answered.ensures.path) in
-    let here = subst (λ v. Traced v.shape (Worker 0 v.seat) first v.acts u.trace Back) c.self.view_is mine in
-    let found = traced_as l.shape a.shape l.seat a.seat first l.acts u.trace Back Back c.loop.invariant.5 c.loop.invariant.6 refl here in
-    subst (λ z. Worked a.shape (Worker 0 a.seat) first a.acts z.trace Back) (sym c.take_done.ensures.left)
-    (c.loop.invariant.8 u.trace Back (last a.shape (Worker 0 a.seat) first l.acts u.trace Back found))
+    let here = subst (λ v. Traced v.shape (Worker 0 v.id.index) first v.acts u.trace Back) c.self.view_is mine in
+    let found = traced_as l.shape a.shape l.id.index a.id.index first l.acts u.trace Back Back (ap (λ z. z.index) c.loop.invariant.3) c.loop.invariant.5 refl here in
+    subst (λ z. Worked a.shape (Worker 0 a.id.index) first a.acts z.trace Back) (sym c.take_done.ensures.left)
+    (c.loop.invariant.7 u.trace Back (last a.shape (Worker 0 a.id.index) first l.acts u.trace Back found))

@@ -16,6 +16,5 @@ invariant-loop g l =
     × (l.self.levels ≡ l.initial.self.levels)
     × (l.self.id ≡ l.initial.self.id)
     × (l.self.units ≡ l.initial.self.units)
-    × (l.self.seat ≡ l.initial.self.seat)
     × (l.self.shape ≡ l.initial.self.shape)
-    × ((w : Log) (n : Move) → Worked l.initial.self.shape (Worker 0 l.initial.self.seat) (Stay (at.ProbeWorking (fresh Termination))) l.self.acts w n → Worked l.initial.self.shape (Worker 0 l.initial.self.seat) (Stay (at.ProbeWorking (fresh Termination))) l.initial.self.acts w n)
+    × ((w : Log) (n : Move) → Worked l.initial.self.shape (Worker 0 l.initial.self.id.index) (Stay (at.ProbeWorking (fresh Termination))) l.self.acts w n → Worked l.initial.self.shape (Worker 0 l.initial.self.id.index) (Stay (at.ProbeWorking (fresh Termination))) l.initial.self.acts w n)

@@ -1,4 +1,4 @@
-use Rattle.std.specs.Prelude.{◌≡◌, ℕ, ℤ, ◌≤◌, ◌<◌, ◌^◌, List, [], ◌∷◌, ◌++◌, Option, Some, None, ⊤}
+use Rattle.std.specs.Prelude.{◌≡◌, ℕ, ℤ, pos, ◌≤◌, ◌<◌, ◌^◌, List, [], ◌∷◌, ◌++◌, map, Option, Some, None, ⊤}
 use Rattle.rayon_core.specs.Environment.{Says, Writes, workers_for}
 use Rattle.std.specs.Fmt.{decimal}
 use Rattle.std.specs.List.Sorted.{IsPermutation}
@@ -7,8 +7,9 @@ use Rattle.spawn_orders.specs.Orders.{numbers_of}
 use Rattle.spawn_orders.specs.declared.order.Order.{Order}
 use Rattle.spawn_orders.specs.declared.order.Order.TheVariants.{Lifo, Fifo, LifoFifo, FifoLifo, Breadth, ScopeLifo, ScopeFifo, MixedLifoFifo, MixedFifoLifo}
 use Rattle.rcore_commands.specs.Lines.{spaced}
+use Rattle.rcore_commands.specs.Squares.{squares}
 use Rattle.rcore_commands.specs.declared.command.Command.{Command}
-use Rattle.rcore_commands.specs.declared.command.Command.TheVariants.{Fib, Threads, Replay}
+use Rattle.rcore_commands.specs.declared.command.Command.TheVariants.{Fib, Broadcast, Threads, Replay}
 
 -- the bytes of the word fib
 abbrev pub fib_word : List ℕ
@@ -31,6 +32,10 @@ kind_word ScopeFifo = 115 ∷ 99 ∷ 111 ∷ 112 ∷ 101 ∷ 45 ∷ 102 ∷ 105 
 kind_word MixedLifoFifo = 109 ∷ 105 ∷ 120 ∷ 101 ∷ 100 ∷ 45 ∷ 108 ∷ 105 ∷ 102 ∷ 111 ∷ 45 ∷ 102 ∷ 105 ∷ 102 ∷ 111 ∷ []
 kind_word MixedFifoLifo = 109 ∷ 105 ∷ 120 ∷ 101 ∷ 100 ∷ 45 ∷ 102 ∷ 105 ∷ 102 ∷ 111 ∷ 45 ∷ 108 ∷ 105 ∷ 102 ∷ 111 ∷ []
 
+-- the bytes of the word broadcast
+abbrev pub broadcast_word : List ℕ
+broadcast_word = 98 ∷ 114 ∷ 111 ∷ 97 ∷ 100 ∷ 99 ∷ 97 ∷ 115 ∷ 116 ∷ []
+
 -- the bytes of the word replay
 abbrev pub replay_word : List ℕ
 replay_word = 114 ∷ 101 ∷ 112 ∷ 108 ∷ 97 ∷ 121 ∷ []
@@ -52,6 +57,15 @@ AsksForFib words workers n =
 abbrev pub AsksForFibHere : List (List ℕ) → ℕ → Type 0
 AsksForFibHere words n = (v : List ℕ) × (words ≡ fib_word ∷ v ∷ []) × Writes v n × (n ≤ 30)
 
+-- so many workers that may be asked for
+abbrev pub AreWorkers : ℕ → Type 0
+AreWorkers workers = (1 ≤ workers) × (workers ≤ 64)
+
+-- two words that ask for a broadcast to so many workers: broadcast and the number, within its range
+abbrev pub AsksForBroadcast : List (List ℕ) → ℕ → Type 0
+AsksForBroadcast words workers =
+    (w : List ℕ) × (words ≡ broadcast_word ∷ w ∷ []) × Writes w workers × AreWorkers workers
+
 -- so many workers has a pool for which so many were asked, by the environment's two words and so many processors
 abbrev pub Counts : ℕ → List ℕ → List ℕ → ℕ → ℕ → Type 0
 Counts asked first second processors count =
@@ -68,6 +82,7 @@ abbrev pub AsksFor : List (List ℕ) → Command → Type 0
 AsksFor words (Fib (Some workers) n) = AsksForFib words workers n
 AsksFor words (Fib None n) = AsksForFibHere words n
 AsksFor words (Command.Order order) = words ≡ order_word ∷ kind_word order ∷ []
+AsksFor words (Broadcast workers) = AsksForBroadcast words workers
 AsksFor words (Threads count) = AsksForThreads words count
 AsksFor words Replay = words ≡ replay_word ∷ []
 
@@ -76,10 +91,12 @@ abbrev pub AskForNothing : List (List ℕ) → Type 0
 AskForNothing words = (c : Command) → AsksFor words c → ⊥
 
 -- what a command that is done has written, if the property says that this text was: its number's decimal and a line feed;
--- of an order each of its numbers once, in whatever order they came, with single spaces between, and a line feed; of the
--- world that a replay prints nothing is said
+-- of an order each of its numbers once, in whatever order they came, with single spaces between, and a line feed; of a
+-- broadcast the squares of the workers' indices, by index, with single spaces between, and a line feed; of the world that a
+-- replay prints nothing is said
 abbrev pub IsPrinted : Command → (List ℕ → Type 0) → Type 0
 IsPrinted (Fib workers n) wrote = wrote (decimal (fib n) ++ 10 ∷ [])
 IsPrinted (Command.Order order) wrote = (ns : List ℤ) × IsPermutation ns (numbers_of order) × wrote (spaced ns ++ 10 ∷ [])
+IsPrinted (Broadcast workers) wrote = wrote (spaced (map pos (squares workers)) ++ 10 ∷ [])
 IsPrinted (Threads count) wrote = wrote (decimal count ++ 10 ∷ [])
 IsPrinted Replay wrote = ⊤

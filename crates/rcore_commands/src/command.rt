@@ -1,5 +1,5 @@
 //! What the words of a command line ask for.
-ghost use Rattle.rcore_commands.specs.Words.{AsksFor, AskForNothing, Counts, InRange, fib_word, kind_word};
+ghost use Rattle.rcore_commands.specs.Words.{AreWorkers, AsksFor, AskForNothing, Counts, InRange, broadcast_word, fib_word, kind_word};
 ghost use Rattle.spawn_orders.specs.declared.order.Order.{Order};
 ghost use Rattle.std.specs.Prelude.{◌≡◌, ◌↔◌, ℕ, IsTrue, IfSome, IfNone, ◌∷◌, [], map, string_bytes};
 ghost use Rattle.std.specs.Vec.Iter.{into_iter_items};
@@ -25,6 +25,11 @@ pub enum Command {
     Order {
         /// How they are spawned.
         order: Order,
+    },
+    /// `broadcast <workers>`: one job to each of so many workers, which answers the square of its worker's index.
+    Broadcast {
+        /// The pool's workers.
+        workers: usize,
     },
     /// `threads <num> <word> <word> <cpus>`: how many workers a pool's builder takes that is told this: so many were
     /// asked for, the environment's two words, and so many processors. A word that writes no number stands for an
@@ -56,6 +61,7 @@ impl Command {
             "order" => Some(Command::Order {
                 order: order_named(words)?,
             }),
+            "broadcast" => broadcast_command(words),
             "threads" => {
                 let asked: usize = words.next()?.parse().ok()?;
                 let (first, second) = (words.next()?, words.next()?);
@@ -106,7 +112,27 @@ fn fib_command(words: Args) -> Option<Command>
 fn is_in_range(workers: usize, n: u8) -> bool
     ensures { IsTrue result ↔ InRange workers n }
 {
-    (1..=MAX_WORKERS).contains(&workers) && n <= MAX_INDEX
+    are_workers(workers) && n <= MAX_INDEX
+}
+
+// Whether so many workers may be asked for.
+fn are_workers(workers: usize) -> bool
+    ensures { IsTrue result ↔ AreWorkers workers }
+{
+    (1..=MAX_WORKERS).contains(&workers)
+}
+
+// What the words after `broadcast` ask for.
+fn broadcast_command(words: Args) -> Option<Command>
+    ensures some { IfSome result (λ c. AsksFor (broadcast_word ∷ map string_bytes (into_iter_items words)) c) }
+    ensures none { IfNone result (AskForNothing (broadcast_word ∷ map string_bytes (into_iter_items words))) }
+{
+    let mut words = words;
+    let workers: usize = words.next()?.parse().ok()?;
+    if !are_workers(workers) || words.next().is_some() {
+        return None;
+    }
+    Some(Command::Broadcast { workers })
 }
 
 // The order that these words name: one word, its kind.

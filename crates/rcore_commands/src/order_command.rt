@@ -1,15 +1,15 @@
 //! The command order.
-ghost use Rattle.rcore_commands.specs.Lines.{spaced, after_spaces};
+ghost use Rattle.rcore_commands.specs.Lines.{spaced};
 ghost use Rattle.spawn_orders.specs.Orders.{numbers_of};
 ghost use Rattle.std.specs.Io.KnownBytes.{Appends};
 ghost use Rattle.std.specs.List.Sorted.{IsPermutation};
-ghost use Rattle.std.specs.Prelude.{◌≡◌, ℤ, ◌∷◌, ◌++◌, [], List, Some};
+ghost use Rattle.std.specs.Prelude.{◌≡◌, ℤ, ◌∷◌, ◌++◌, [], List};
 
-use crate::run::{DONE, build_error_name, fail};
+use crate::run::{build_error_name, fail};
+use crate::spaced::print_numbers;
 use rayon_core::Ids;
 use spawn_orders::{Order, run_order};
 use std::alloc::Global;
-use std::fmt;
 use std::io::Write;
 use std::sync::Wait;
 use std::thread::Threads;
@@ -36,46 +36,5 @@ pub(crate) fn print_order<R: Threads + Wait + Copy + Send + 'static, W: Write, E
     match answer {
         Ok(numbers) => print_numbers(numbers.as_slice(), out, err),
         Err(fault) => fail(err, fault),
-    }
-}
-
-// Prints numbers on a line of their own.
-fn print_numbers<W: Write, E: Write>(numbers: &[i8], out: &mut W, err: &mut E) -> u8
-    ensures done { result ≡ 0 → Appends (W.contents out.old) (W.contents out.new) (spaced numbers.now ++ 10 ∷ []) }
-    ensures status { result ≡ 2 → ⊥ }
-{
-    match writeln!(out, "{}", Spaced(numbers)) {
-        Ok(()) => DONE,
-        Err(_) => fail(err, "Write"),
-    }
-}
-
-// Numbers, as they are printed: with single spaces between.
-#[derive(Clone, Copy)]
-struct Spaced<'a>(&'a [i8]);
-
-impl fmt::Display for Spaced<'_> {
-    ghost output = { λ s. Some (spaced s.0.now) };
-
-    fn fmt<W: fmt::Write>(&self, f: &mut fmt::Formatter<W>) -> fmt::Result {
-        match self.0.split_first() {
-            None => Ok(()),
-            Some((first, rest)) => write!(f, "{first}{}", AfterSpaces(rest)),
-        }
-    }
-}
-
-// Numbers, as they are printed: each after a space.
-#[derive(Clone, Copy)]
-struct AfterSpaces<'a>(&'a [i8]);
-
-impl fmt::Display for AfterSpaces<'_> {
-    ghost output = { λ s. Some (after_spaces s.0.now) };
-
-    fn fmt<W: fmt::Write>(&self, f: &mut fmt::Formatter<W>) -> fmt::Result {
-        for number in self.0 {
-            write!(f, " {number}")?;
-        }
-        Ok(())
     }
 }

@@ -8,6 +8,7 @@ ghost use Rattle.std.specs.IoError.{error_kind};
 ghost use Rattle.std.specs.Prelude.{◌≡◌, ◌≢◌, ℕ, ◌∷◌, ◌++◌, [], IfOk, IfErr, drop, map, string_bytes};
 ghost use Rattle.std.specs.Vec.Iter.{into_iter_items};
 
+use crate::broadcast_command::print_broadcast;
 use crate::command::Command;
 use crate::order_command::print_order;
 use crate::replay_command::print_replay;
@@ -83,6 +84,7 @@ pub fn run<R: Threads + Wait + Env + Copy + Send + 'static, I: BufRead, W: Write
         None => bad_words(err),
         Some(Command::Fib { workers, n }) => print_fib(rt, alloc, workers, n, out, err),
         Some(Command::Order { order }) => print_order(rt, alloc, order, out, err),
+        Some(Command::Broadcast { workers }) => print_broadcast(rt, alloc, workers, out, err),
         Some(Command::Threads { count }) => print_line(count as u64, out, err),
         Some(Command::Replay) => print_replay(alloc, reader, out, err),
     }
@@ -130,8 +132,8 @@ fn print_line<W: Write, E: Write>(number: u64, out: &mut W, err: &mut E) -> u8
     }
 }
 
-// The name of why a pool was not made, without the system's text.
-pub(crate) fn build_error_name(error: &ThreadPoolBuildError) -> &'static str {
+/// The name of why a pool was not made, without the system's text.
+pub fn build_error_name(error: &ThreadPoolBuildError) -> &'static str {
     match error {
         ThreadPoolBuildError::GlobalPoolAlreadyInitialized => "GlobalPoolAlreadyInitialized",
         ThreadPoolBuildError::CurrentThreadAlreadyInPool => "CurrentThreadAlreadyInPool",
@@ -149,8 +151,8 @@ fn bad_words<E: Write>(err: &mut E) -> u8
     BAD_WORDS
 }
 
-// Names what failed on `err`, and answers its status.
-pub(crate) fn fail<E: Write, D: Display + Drop>(err: &mut E, name: D) -> u8
+/// Names what failed on `err`, and answers its status.
+pub fn fail<E: Write, D: Display + Drop>(err: &mut E, name: D) -> u8
     ensures { result ≡ 1 }
 {
     complain(err, name);

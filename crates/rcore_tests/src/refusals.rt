@@ -1,9 +1,10 @@
 //! The printed name of each refusal, and what the program says where its words could not be read.
 
-use crate::run::{build_error_name, fail, run_args};
 use fibonacci::FibFault;
 use rayon_core::{CallError, Refusal, ThreadPoolBuildError};
 use rayon_machine::error::{StartError, StepError};
+use rcore_commands::run::{build_error_name, fail, run_args};
+use rcore_commands::squares::{SquareFault, Squares};
 use spawn_orders::OrderFault;
 use std::alloc::Global;
 use std::env::Args;
@@ -54,6 +55,17 @@ fn names_of_lost_results(rt: HostRuntime) -> Result<(), Fail> {
     prints(&rt, alloc, &FibFault::from(foreign), "Foreign")?;
     prints(&rt, alloc, &FibFault::from(missing), "Missing")?;
     prints(&rt, alloc, &FibFault::from(fault), "TooLarge")
+}
+
+#[test]
+fn names_of_failed_broadcasts(rt: HostRuntime) -> Result<(), Fail> {
+    let alloc = rt.alloc();
+    for (refusal, name) in REFUSALS {
+        let error: CallError<SquareFault, Squares> = CallError::Refused(refusal, Squares);
+        prints(&rt, alloc, &error, name)?;
+    }
+    let fault: CallError<SquareFault, Squares> = CallError::Fault(SquareFault::TooLarge);
+    prints(&rt, alloc, &fault, "TooLarge")
 }
 
 #[test]

@@ -1,6 +1,6 @@
 //! Replays over memory: the text, what is printed for it, and the status.
 
-use crate::run::run;
+use rcore_commands::run::run;
 use std::alloc::{AllocError, Global};
 use std::env::{Args, Env};
 use std::io::{BufRead, Error, ErrorKind, Read, Result as IoResult};

@@ -1,6 +1,6 @@
 //! What each command line answers: status and bytes on both streams, over memory.
 
-use crate::run::run;
+use rcore_commands::run::run;
 use std::alloc::{AllocError, Global};
 use std::env::Args;
 use std::test::Fail;
@@ -35,8 +35,15 @@ const TENS_UP: &str =
     50 69 68 67 66 65 64 63 62 61 60 79 78 77 76 75 74 73 72 71 70 89 88 87 86 85 84 83 \
     82 81 80 99 98 97 96 95 94 93 92 91 90\n";
 
+/// What `broadcast 64` prints.
+const SQUARES_TO_63: &str =
+    "0 1 4 9 16 25 36 49 64 81 100 121 144 169 196 225 256 289 324 361 400 441 484 529 576 \
+    625 676 729 784 841 900 961 1024 1089 1156 1225 1296 1369 1444 1521 1600 1681 1764 1849 \
+    1936 2025 2116 2209 2304 2401 2500 2601 2704 2809 2916 3025 3136 3249 3364 3481 3600 \
+    3721 3844 3969\n";
+
 /// Command lines that are done, and what they print.
-const GOOD_LINES: [(&str, &str); 37] = [
+const GOOD_LINES: [(&str, &str); 41] = [
     ("fib 1 20", "6765\n"),
     ("fib 1 0", "0\n"),
     ("fib 1 1", "1\n"),
@@ -62,6 +69,10 @@ const GOOD_LINES: [(&str, &str); 37] = [
     ("order scope-fifo", UP_TO_99),
     ("order mixed-lifo-fifo", "3 -1 2 -2 1 -3 0\n"),
     ("order mixed-fifo-lifo", "0 -3 1 -2 2 -1 3\n"),
+    ("broadcast 5", "0 1 4 9 16\n"),
+    ("broadcast 1", "0\n"),
+    ("broadcast +007", "0 1 4 9 16 25 36\n"),
+    ("broadcast 64", SQUARES_TO_63),
     ("threads 0 0 8 4", "4\n"),
     ("threads 0 x 8 4", "8\n"),
     ("threads 0 - 0 4", "4\n"),
@@ -77,7 +88,7 @@ const GOOD_LINES: [(&str, &str); 37] = [
 ];
 
 /// Command lines that are bad words.
-const BAD_LINES: [&str; 41] = [
+const BAD_LINES: [&str; 48] = [
     "",
     "fib",
     "fib x",
@@ -110,6 +121,13 @@ const BAD_LINES: [&str; 41] = [
     "order scope",
     "order scope-breadth",
     "Order lifo",
+    "broadcast",
+    "broadcast 0",
+    "broadcast 65",
+    "broadcast 18446744073709551617",
+    "broadcast 5 5",
+    "broadcast x",
+    "Broadcast 5",
     "threads",
     "threads 0 0 8",
     "threads 0 0 8 4 2",
@@ -169,6 +187,8 @@ fn failed_writes(rt: HostRuntime) -> Result<(), Fail> {
         ("fib 1 20", 2),
         ("order lifo", 0),
         ("order lifo", 2),
+        ("broadcast 5", 0),
+        ("broadcast 5", 2),
     ] {
         let mut bytes = [0u8; 2];
         let mut out = &mut bytes[..room];

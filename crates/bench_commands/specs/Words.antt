@@ -4,11 +4,13 @@ use Rattle.bench_commands.specs.declared.command.Command.{Command}
 use Rattle.bench_commands.specs.declared.command.Command.TheVariants.{Values, Time}
 use Rattle.bench_commands.specs.declared.command.Timed.{Timed}
 use Rattle.bench_commands.specs.declared.command.Timed.TheVariants.{Join, Leaves, Sequential, Install, PoolJoin}
-use Rattle.bench_commands.specs.declared.command.Timed.TheVariants.{Spawn, SpawnFifo, Scope, ScopeFifo, ScopeOutputs}
-use Rattle.bench_commands.specs.declared.command.Timed.TheVariants.{InPlaceScope, Idle}
+use Rattle.bench_commands.specs.declared.command.Timed.TheVariants.{Spawn, SpawnFifo, SpawnBroadcast, Broadcast, WorkerBroadcast}
+use Rattle.bench_commands.specs.declared.command.Timed.TheVariants.{Scope, ScopeFifo, ScopeOutputs}
+use Rattle.bench_commands.specs.declared.command.Timed.TheVariants.{InPlaceScope, Wake, Idle}
 
 -- the bytes of the word that asks for this: join, leaves, sequential, install, pool_join, spawn,
--- spawn_fifo, scope, scope_fifo, scope_outputs, in_place_scope, idle
+-- spawn_fifo, spawn_broadcast, broadcast, worker_broadcast, scope, scope_fifo, scope_outputs,
+-- in_place_scope, wake, idle
 abbrev pub word_of : Timed → List ℕ
 word_of Join = 106 ∷ 111 ∷ 105 ∷ 110 ∷ []
 word_of Leaves = 108 ∷ 101 ∷ 97 ∷ 118 ∷ 101 ∷ 115 ∷ []
@@ -17,10 +19,14 @@ word_of Install = 105 ∷ 110 ∷ 115 ∷ 116 ∷ 97 ∷ 108 ∷ 108 ∷ []
 word_of PoolJoin = 112 ∷ 111 ∷ 111 ∷ 108 ∷ 95 ∷ 106 ∷ 111 ∷ 105 ∷ 110 ∷ []
 word_of Spawn = 115 ∷ 112 ∷ 97 ∷ 119 ∷ 110 ∷ []
 word_of SpawnFifo = 115 ∷ 112 ∷ 97 ∷ 119 ∷ 110 ∷ 95 ∷ 102 ∷ 105 ∷ 102 ∷ 111 ∷ []
+word_of SpawnBroadcast = 115 ∷ 112 ∷ 97 ∷ 119 ∷ 110 ∷ 95 ∷ 98 ∷ 114 ∷ 111 ∷ 97 ∷ 100 ∷ 99 ∷ 97 ∷ 115 ∷ 116 ∷ []
+word_of Broadcast = 98 ∷ 114 ∷ 111 ∷ 97 ∷ 100 ∷ 99 ∷ 97 ∷ 115 ∷ 116 ∷ []
+word_of WorkerBroadcast = 119 ∷ 111 ∷ 114 ∷ 107 ∷ 101 ∷ 114 ∷ 95 ∷ 98 ∷ 114 ∷ 111 ∷ 97 ∷ 100 ∷ 99 ∷ 97 ∷ 115 ∷ 116 ∷ []
 word_of Scope = 115 ∷ 99 ∷ 111 ∷ 112 ∷ 101 ∷ []
 word_of ScopeFifo = 115 ∷ 99 ∷ 111 ∷ 112 ∷ 101 ∷ 95 ∷ 102 ∷ 105 ∷ 102 ∷ 111 ∷ []
 word_of ScopeOutputs = 115 ∷ 99 ∷ 111 ∷ 112 ∷ 101 ∷ 95 ∷ 111 ∷ 117 ∷ 116 ∷ 112 ∷ 117 ∷ 116 ∷ 115 ∷ []
 word_of InPlaceScope = 105 ∷ 110 ∷ 95 ∷ 112 ∷ 108 ∷ 97 ∷ 99 ∷ 101 ∷ 95 ∷ 115 ∷ 99 ∷ 111 ∷ 112 ∷ 101 ∷ []
+word_of Wake = 119 ∷ 97 ∷ 107 ∷ 101 ∷ []
 word_of Idle = 105 ∷ 100 ∷ 108 ∷ 101 ∷ []
 
 -- a word that writes a number: decimal digits, one or more, after a plus or none

@@ -23,6 +23,12 @@ pub enum Timed {
     Spawn,
     /// The same, spawned in order.
     SpawnFifo,
+    /// Detached broadcasts of a job whose pieces only count, by one job.
+    SpawnBroadcast,
+    /// Broadcasts of F(n) that wait, one after the other, by a thread that is no worker.
+    Broadcast,
+    /// The same, by one job.
+    WorkerBroadcast,
     /// A scope of empty jobs, by one job.
     Scope,
     /// The same, a scope in order.
@@ -31,6 +37,8 @@ pub enum Timed {
     ScopeOutputs,
     /// A scope of empty jobs, by a thread that is no worker.
     InPlaceScope,
+    /// Broadcasts of F(n) that wait, by a thread that is no worker, before each of which all workers fall asleep.
+    Wake,
     /// Nothing: the pool is idle for some seconds after it has found F(n).
     Idle,
 }
@@ -49,10 +57,14 @@ impl Timed {
             "pool_join" => Some(Timed::PoolJoin),
             "spawn" => Some(Timed::Spawn),
             "spawn_fifo" => Some(Timed::SpawnFifo),
+            "spawn_broadcast" => Some(Timed::SpawnBroadcast),
+            "broadcast" => Some(Timed::Broadcast),
+            "worker_broadcast" => Some(Timed::WorkerBroadcast),
             "scope" => Some(Timed::Scope),
             "scope_fifo" => Some(Timed::ScopeFifo),
             "scope_outputs" => Some(Timed::ScopeOutputs),
             "in_place_scope" => Some(Timed::InPlaceScope),
+            "wake" => Some(Timed::Wake),
             "idle" => Some(Timed::Idle),
             _ => None,
         }

@@ -1,11 +1,12 @@
 //! The commands: what is timed, and what is printed.
-ghost use Rattle.std.specs.Prelude.{◌≡◌, ℕ, ◌+◌, IfOk};
+ghost use Rattle.std.specs.Prelude.{◌≡◌, ℕ, ◌+◌, ◌*◌, IfOk};
 ghost use Rattle.fibonacci.specs.Fib.{fib};
 
+use crate::casts::{Casting, sum_of};
 use crate::command::{Command, Timed};
 use crate::leaves::Leaves;
 use crate::scopes::{Deed, Scoping, count_in_place};
-use crate::spawns::Spawning;
+use crate::spawns::{Manner, Spawning};
 use anyhow::{Context, Result};
 use fibonacci::{Fib, sequential};
 use rayon_core::{CallError, Ids, ThreadPool, ThreadPoolBuilder};
@@ -20,7 +21,7 @@ use std::time::{Duration, Instant};
 // How many times F(n) is found.
 const RUNS: u32 = 3;
 
-// How many calls are made from outside, one after the other.
+// How many calls are made from outside, or broadcasts by one job, one after the other.
 const CALLS: u32 = 20_000;
 
 // How many jobs are spawned by one, or into one scope.
@@ -28,6 +29,12 @@ const SPAWNS: u64 = 100_000;
 
 // How many seconds a pool is idle.
 const SECONDS: u64 = 2;
+
+// How often sleeping workers are called.
+const WAKES: u32 = 500;
+
+// How many milliseconds the workers have to fall asleep.
+const REST: u64 = 4;
 
 /// Does what the command asks for, and prints what it says: for each timed run the nanoseconds that it took and what it
 /// answered.
@@ -53,15 +60,20 @@ fn run_timed<R: Runtime + Threads + Wait + Copy + Send + 'static>(
     match what {
         Timed::Sequential => time_sequential(rt, n),
         Timed::Leaves => run_leaves(rt, alloc, workers, n),
-        Timed::Spawn => run_spawns(rt, alloc, workers, false),
-        Timed::SpawnFifo => run_spawns(rt, alloc, workers, true),
+        Timed::Spawn => run_spawns(rt, alloc, workers, Manner::Plain),
+        Timed::SpawnFifo => run_spawns(rt, alloc, workers, Manner::InOrder),
+        Timed::SpawnBroadcast => run_spawns(rt, alloc, workers, Manner::Everywhere),
+        Timed::WorkerBroadcast => run_casts(rt, alloc, workers, n),
         Timed::Scope => run_scopes(rt, alloc, workers, Some(Deed::Count)),
         Timed::ScopeFifo => run_scopes(rt, alloc, workers, Some(Deed::CountInOrder)),
         Timed::ScopeOutputs => run_scopes(rt, alloc, workers, Some(Deed::Sum)),
         Timed::InPlaceScope => run_scopes(rt, alloc, workers, None),
-        Timed::Join | Timed::Install | Timed::PoolJoin | Timed::Idle => {
-            run_on_pool(rt, alloc, workers, Some((what, n)))
-        }
+        Timed::Join
+        | Timed::Install
+        | Timed::PoolJoin
+        | Timed::Broadcast
+        | Timed::Wake
+        | Timed::Idle => run_on_pool(rt, alloc, workers, Some((what, n))),
     }
 }
 
@@ -93,22 +105,37 @@ fn run_leaves<R: Runtime + Threads + Wait + Copy + Send + 'static>(
     let ids = Ids::new();
     let builder = ThreadPoolBuilder::<Leaves>::new().num_threads(workers);
     let pool = builder.build(rt, alloc, &ids)?;
-    let outcome = time_leaves(rt, alloc, &pool, n);
+    let outcome = time_runs(rt, || with_leaves(rt, alloc, &pool, n));
     pool.end_and_join(rt);
     outcome
 }
 
-// The same of jobs that are spawned, in order or not.
+// The same of jobs that are spawned in this manner.
 fn run_spawns<R: Runtime + Threads + Wait + Copy + Send + 'static>(
     rt: &R,
     alloc: Global,
     workers: usize,
-    in_order: bool,
+    manner: Manner,
 ) -> Result<()> {
     let ids = Ids::new();
     let builder = ThreadPoolBuilder::<Spawning>::new().num_threads(workers);
     let pool = builder.build(rt, alloc, &ids)?;
-    let outcome = time_spawns(rt, alloc, &pool, in_order);
+    let outcome = time_spawns(rt, alloc, &pool, manner);
+    pool.end_and_join(rt);
+    outcome
+}
+
+// The same of a job that broadcasts.
+fn run_casts<R: Runtime + Threads + Wait + Copy + Send + 'static>(
+    rt: &R,
+    alloc: Global,
+    workers: usize,
+    n: u8,
+) -> Result<()> {
+    let ids = Ids::new();
+    let builder = ThreadPoolBuilder::<Casting>::new().num_threads(workers);
+    let pool = builder.build(rt, alloc, &ids)?;
+    let outcome = time_runs(rt, || with_casts(rt, alloc, &pool, n));
     pool.end_and_join(rt);
     outcome
 }
@@ -124,8 +151,8 @@ fn run_scopes<R: Runtime + Threads + Wait + Copy + Send + 'static>(
     let builder = ThreadPoolBuilder::<Scoping>::new().num_threads(workers);
     let pool = builder.build(rt, alloc, &ids)?;
     let outcome = match deed {
-        None => time_in_place_scopes(rt, alloc, &pool),
-        Some(deed) => time_scopes(rt, alloc, &pool, Scoping::new(deed, SPAWNS)),
+        None => time_runs(rt, || Ok(count_in_place(rt, alloc, &pool, SPAWNS)?)),
+        Some(deed) => time_runs(rt, || with_scope(rt, alloc, &pool, deed)),
     };
     pool.end_and_join(rt);
     outcome
@@ -140,14 +167,18 @@ fn time<R: Runtime + Wait>(
     n: u8,
 ) -> Result<()> {
     match what {
-        Timed::Join => time_joins(rt, alloc, pool, n),
-        Timed::Install => time_installs(rt, alloc, pool, n),
-        Timed::PoolJoin => time_pool_joins(rt, alloc, pool, n),
+        Timed::Join => time_runs(rt, || installed(rt, alloc, pool, n)),
+        Timed::Install => time_calls(rt, || installed(rt, alloc, pool, n)),
+        Timed::PoolJoin => time_calls(rt, || joined_twice(rt, alloc, pool, n)),
+        Timed::Broadcast => time_calls(rt, || broadcasted(rt, alloc, pool, n)),
+        Timed::Wake => wake(rt, alloc, pool, n),
         Timed::Idle => idle(rt, alloc, pool, n),
         Timed::Leaves
         | Timed::Sequential
         | Timed::Spawn
         | Timed::SpawnFifo
+        | Timed::SpawnBroadcast
+        | Timed::WorkerBroadcast
         | Timed::Scope
         | Timed::ScopeFifo
         | Timed::ScopeOutputs
@@ -163,66 +194,27 @@ fn print_values<R: Runtime + Wait>(rt: &R, alloc: Global, pool: &ThreadPool<Fib>
     Ok(())
 }
 
-// One install for each run: what is timed are the joins inside.
-fn time_joins<R: Runtime + Wait>(
-    rt: &R,
-    alloc: Global,
-    pool: &ThreadPool<Fib>,
-    n: u8,
-) -> Result<()> {
+// Makes the call so often as there are runs, each timed alone, with its answer.
+fn time_runs<R: Runtime, F: Fn() -> Result<u64>>(rt: &R, call: F) -> Result<()>
+    requires { F.IsAlwaysCallable call }
+{
     for _ in 0..RUNS {
         let start = Instant::now(rt)?;
-        let value = installed(rt, alloc, pool, n)?;
+        let answer = call()?;
         let nanoseconds = start.elapsed(rt)?.as_nanos();
-        println!(rt; "{nanoseconds} {value}")?;
+        println!(rt; "{nanoseconds} {answer}")?;
     }
     Ok(())
 }
 
-// The same with leaves.
-fn time_leaves<R: Runtime + Wait>(
-    rt: &R,
-    alloc: Global,
-    pool: &ThreadPool<Leaves>,
-    n: u8,
-) -> Result<()> {
-    for _ in 0..RUNS {
-        let start = Instant::now(rt)?;
-        let value = with_leaves(rt, alloc, pool, n)?;
-        let nanoseconds = start.elapsed(rt)?.as_nanos();
-        println!(rt; "{nanoseconds} {value}")?;
-    }
-    Ok(())
-}
-
-// All installs in one go, and the sum of the answers.
-fn time_installs<R: Runtime + Wait>(
-    rt: &R,
-    alloc: Global,
-    pool: &ThreadPool<Fib>,
-    n: u8,
-) -> Result<()> {
+// Makes all calls in one go, with the sum of their answers.
+fn time_calls<R: Runtime, F: Fn() -> Result<u64>>(rt: &R, call: F) -> Result<()>
+    requires { F.IsAlwaysCallable call }
+{
     let start = Instant::now(rt)?;
     let mut sum: u64 = 0;
     for _ in 0..CALLS {
-        sum = sum.saturating_add(installed(rt, alloc, pool, n)?);
-    }
-    let nanoseconds = start.elapsed(rt)?.as_nanos();
-    println!(rt; "{nanoseconds} {sum}")?;
-    Ok(())
-}
-
-// All joins from outside in one go, and the sum of the answers.
-fn time_pool_joins<R: Runtime + Wait>(
-    rt: &R,
-    alloc: Global,
-    pool: &ThreadPool<Fib>,
-    n: u8,
-) -> Result<()> {
-    let start = Instant::now(rt)?;
-    let mut sum: u64 = 0;
-    for _ in 0..CALLS {
-        sum = sum.saturating_add(joined_twice(rt, alloc, pool, n)?);
+        sum = sum.saturating_add(call()?);
     }
     let nanoseconds = start.elapsed(rt)?.as_nanos();
     println!(rt; "{nanoseconds} {sum}")?;
@@ -234,13 +226,13 @@ fn time_spawns<R: Runtime + Wait>(
     rt: &R,
     alloc: Global,
     pool: &ThreadPool<Spawning>,
-    in_order: bool,
+    manner: Manner,
 ) -> Result<()> {
     for _ in 0..RUNS {
         let counter = Arc::new(alloc, AtomicU64::new(0)).context("NoRoom")?;
         let mine = Arc::try_clone(&counter).context("NoRoom")?;
         let start = Instant::now(rt)?;
-        let job = Spawning::new(mine, SPAWNS, in_order);
+        let job = Spawning::new(mine, SPAWNS, manner);
         let spawned = pool
             .install(rt, alloc, job)
             .map_err(CallError::without_sides)?;
@@ -256,36 +248,16 @@ fn time_spawns<R: Runtime + Wait>(
     Ok(())
 }
 
-// One install for each run: what is timed is the scope inside, until it is answered.
-fn time_scopes<R: Runtime + Wait>(
-    rt: &R,
-    alloc: Global,
-    pool: &ThreadPool<Scoping>,
-    job: Scoping,
-) -> Result<()> {
-    for _ in 0..RUNS {
-        let start = Instant::now(rt)?;
-        let answer = pool
-            .install(rt, alloc, job)
-            .map_err(CallError::without_sides)?;
-        let nanoseconds = start.elapsed(rt)?.as_nanos();
-        println!(rt; "{nanoseconds} {answer}")?;
+// Broadcasts from outside, before each of which the workers fall asleep, and the sum of the answers.
+fn wake<R: Runtime + Wait>(rt: &R, alloc: Global, pool: &ThreadPool<Fib>, n: u8) -> Result<()> {
+    let start = Instant::now(rt)?;
+    let mut sum: u64 = 0;
+    for _ in 0..WAKES {
+        thread::sleep(rt, Duration::from_millis(REST));
+        sum = sum.saturating_add(broadcasted(rt, alloc, pool, n)?);
     }
-    Ok(())
-}
-
-// One scope from outside for each run, until it is answered.
-fn time_in_place_scopes<R: Runtime + Wait>(
-    rt: &R,
-    alloc: Global,
-    pool: &ThreadPool<Scoping>,
-) -> Result<()> {
-    for _ in 0..RUNS {
-        let start = Instant::now(rt)?;
-        let outputs = count_in_place(rt, alloc, pool, SPAWNS)?;
-        let nanoseconds = start.elapsed(rt)?.as_nanos();
-        println!(rt; "{nanoseconds} {outputs}")?;
-    }
+    let nanoseconds = start.elapsed(rt)?.as_nanos();
+    println!(rt; "{nanoseconds} {sum}")?;
     Ok(())
 }
 
@@ -334,6 +306,27 @@ fn with_leaves<R: Wait>(rt: &R, alloc: Global, pool: &ThreadPool<Leaves>, n: u8)
     Ok(value)
 }
 
+// The sum of all that one installed job found by broadcasts.
+fn with_casts<R: Wait>(rt: &R, alloc: Global, pool: &ThreadPool<Casting>, n: u8) -> Result<u64> {
+    let sum = pool
+        .install(rt, alloc, Casting::new(CALLS, n))
+        .map_err(CallError::without_sides)?;
+    Ok(sum)
+}
+
+// What one installed job answers that opens a scope and does this in it.
+fn with_scope<R: Wait>(
+    rt: &R,
+    alloc: Global,
+    pool: &ThreadPool<Scoping>,
+    deed: Deed,
+) -> Result<u64> {
+    let answer = pool
+        .install(rt, alloc, Scoping::new(deed, SPAWNS))
+        .map_err(CallError::without_sides)?;
+    Ok(answer)
+}
+
 // F(n) by a join of two sides from outside the pool.
 #[tactic(auto, using(fibonacci::proofs::Fibs::fib_small, fibonacci::proofs::Fibs::fib_sum))]
 fn joined<R: Wait>(rt: &R, alloc: Global, pool: &ThreadPool<Fib>, n: u8) -> Result<u64>
@@ -356,6 +349,17 @@ fn joined_twice<R: Wait>(rt: &R, alloc: Global, pool: &ThreadPool<Fib>, n: u8) -
         .join(rt, alloc, Fib(n), Fib(n))
         .map_err(CallError::without_sides)?;
     x.checked_add(y).context("TooLarge")
+}
+
+// The sum of F(n) on each worker, by a broadcast from outside the pool.
+#[tactic(auto, using(crate::proofs::Sums::sum_same))]
+fn broadcasted<R: Wait>(rt: &R, alloc: Global, pool: &ThreadPool<Fib>, n: u8) -> Result<u64>
+    ensures { IfOk result (λ v. v ≡ pool.now.workers * fib n) }
+{
+    let answers = pool
+        .broadcast(rt, alloc, Fib(n))
+        .map_err(CallError::without_sides)?;
+    sum_of(&answers).context("TooLarge")
 }
 
 // F(n) by plain recursion.

@@ -18,21 +18,32 @@ pub enum SpawnFault {
     Refused(Refusal),
 }
 
-/// A job that spawns so many that count one each, in order or not, or that counts one itself where that is none.
+/// By which call the jobs are spawned.
+#[derive(Clone, Copy)]
+pub enum Manner {
+    /// `WorkerThread::spawn`.
+    Plain,
+    /// `WorkerThread::spawn_fifo`.
+    InOrder,
+    /// `WorkerThread::spawn_broadcast`: each worker counts one.
+    Everywhere,
+}
+
+/// A job that spawns so many that count one each, or that counts one itself where that is none.
 #[derive(Drop)]
 pub struct Spawning {
     counter: Arc<AtomicU64>,
     count: u64,
-    in_order: bool,
+    manner: Manner,
 }
 
 impl Spawning {
-    /// A job that spawns so many.
-    pub fn new(counter: Arc<AtomicU64>, count: u64, in_order: bool) -> Spawning {
+    /// A job that spawns so many in this manner.
+    pub fn new(counter: Arc<AtomicU64>, count: u64, manner: Manner) -> Spawning {
         Spawning {
             counter,
             count,
-            in_order,
+            manner,
         }
     }
 }
@@ -67,10 +78,13 @@ impl Job for Spawning {
     ) -> Result<u64, SpawnFault> {
         if self.count == 0 {
             self.counter.fetch_add(1, Ordering::SeqCst);
-        } else {
-            spawn_all(rt, alloc, w, &self.counter, self.count, self.in_order)?;
+            return Ok(1);
         }
-        Ok(self.count)
+        spawn_all(rt, alloc, w, &self.counter, self.count, self.manner)?;
+        match self.manner {
+            Manner::Plain | Manner::InOrder => Ok(self.count),
+            Manner::Everywhere => Ok(self.count.saturating_mul(w.current_num_threads() as u64)),
+        }
     }
 
     fn run_on<R: Waits<Self>>(
@@ -80,18 +94,19 @@ impl Job for Spawning {
         _w: &mut WorkerThread<Self>,
         _ctx: &mut BroadcastContext<Self>,
     ) -> Result<u64, SpawnFault> {
-        Ok(self.count)
+        self.counter.fetch_add(1, Ordering::SeqCst);
+        Ok(1)
     }
 }
 
-// Spawns so many jobs that count one, in order or not.
+// Spawns so many jobs that count one, in this manner.
 fn spawn_all<R: Waits<Spawning>>(
     rt: &R,
     alloc: Global,
     w: &mut WorkerThread<Spawning>,
     counter: &Arc<AtomicU64>,
     count: u64,
-    in_order: bool,
+    manner: Manner,
 ) -> Result<(), SpawnFault>
     ensures same { SameWorker w.old w.new }
 {
@@ -99,11 +114,11 @@ fn spawn_all<R: Waits<Spawning>>(
         let Ok(counter) = Arc::try_clone(counter) else {
             return Err(SpawnFault::Refused(Refusal::NoRoom));
         };
-        let job = Spawning::new(counter, 0, in_order);
-        let spawned = if in_order {
-            w.spawn_fifo(rt, alloc, job)
-        } else {
-            w.spawn(rt, alloc, job)
+        let job = Spawning::new(counter, 0, manner);
+        let spawned = match manner {
+            Manner::Plain => w.spawn(rt, alloc, job),
+            Manner::InOrder => w.spawn_fifo(rt, alloc, job),
+            Manner::Everywhere => w.spawn_broadcast(rt, alloc, job),
         };
         if let Err((refusal, _job)) = spawned {
             return Err(SpawnFault::Refused(refusal));

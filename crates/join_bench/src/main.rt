@@ -12,8 +12,8 @@ fn main(rt: HostRuntime) -> Result<()> {
     let _ = words.next();
     let Some(command) = Command::parse(words) else {
         bail!(
-            "join|leaves|sequential|install|pool_join|spawn[_fifo]|scope[_fifo|_outputs]|in_place_scope|idle \
-            WORKERS N, or nothing"
+            "join|leaves|sequential|install|pool_join|spawn[_fifo|_broadcast]|[worker_]broadcast|\
+            scope[_fifo|_outputs]|in_place_scope|wake|idle WORKERS N, or nothing"
         );
     };
     run(&rt, alloc, command)

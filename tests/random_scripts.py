@@ -7,6 +7,7 @@ prints one script. KIND is
   exact  one worker, newest or oldest first: ledgers in order, the first fault, what migrated
   many   pools of 1 to 8 workers, threads: answers, sorted ledgers, gates, numbers of faults
   meet   the same of 2 to 8, with sides that wait for each other and jobs that serve at a gate
+  cast   pools of 1 to 8 workers, threads, and broadcasts beside all the rest
   deep   one worker with few levels, and calls after the end: for ours and the model alone
 
 A line `# workers: ..` says on which other numbers of workers a script says the same.
@@ -17,12 +18,14 @@ import sys
 
 from script_model import NO_LIMIT, SCOPES, call_of
 
-KINDS = ("exact", "many", "meet", "deep")
+KINDS = ("exact", "many", "meet", "cast", "deep")
 ONE_WORKER = ("exact", "deep")
 # How many runs a step may lead to, faults left out.
-MOST_RUNS = {"exact": 400, "many": 600, "meet": 300, "deep": 400}
+MOST_RUNS = {"exact": 400, "many": 600, "meet": 300, "cast": 600, "deep": 400}
+MOST_WORKERS = 8
 WORKERS = {"many": "1 2 3 4 8", "meet": "2 3 4 8"}
 SPAWNS = ["spawn", "spawn", "spawn_fifo"]
+CASTS = ["broadcast", "broadcast", "spawn_broadcast"]
 NUMBERS = ["n", "n+1", "10n", "10n+k", "k", "2n+3", "n-1", "3k+1"]
 NUMBERS_OF_CALLS = ["", "n", "n-1", "k", "n+k", "1", "2", "3", "4", "5"]
 MEETING_JOBS = """\
@@ -41,10 +44,11 @@ job server
 
 
 class Deed:
-    """A line of a job, with what it calls."""
+    """A line of a job, with what it calls, and how often on most workers."""
 
     def __init__(self, low, high, times, text, calls):
         self.low, self.high, self.times, self.text, self.calls = low, high, times, text, calls
+        self.each = MOST_WORKERS if "broadcast" in text else 1
 
     def calls_of(self, own, turn):
         """The jobs that it calls, with their numbers, or None where one would be below 0."""
@@ -59,6 +63,7 @@ class Jobs:
 
     def __init__(self, draw, kind, told, faults):
         self.draw, self.one_worker, self.told, self.faults = draw, kind in ONE_WORKER, told, faults
+        self.casts = kind == "cast"
         self.names = [f"j{at}" for at in range(draw.randint(2, 7))]
         self.has_scopes = draw.random() < 0.7
         self.inside = {name for name in self.names[1:] if self.has_scopes and draw.random() < 0.5}
@@ -98,7 +103,11 @@ class Jobs:
             return Deed(low, high, times, f"{prefix}add 10", [])
         name, form = self.draw.choice(among), self.draw.choice(NUMBERS_OF_CALLS)
         call = f"{name}({form})" if form else name
-        return Deed(low, high, times, f"{prefix}into {call}", [call])
+        return Deed(low, high, times, f"{prefix}{self.entry()} {call}", [call])
+
+    def entry(self):
+        """How a job comes into a scope."""
+        return "into_broadcast" if self.casts and self.draw.random() < 0.4 else "into"
 
     def marks(self, at):
         """Deeds by which the order of the runs is seen, and what they were told."""
@@ -159,9 +168,12 @@ class Jobs:
             return f"join {one} with {draw.choice(plain)}", [one]
         if chance < 0.82:
             return f"join {one} with install {other}", [one, other]
+        if self.casts and draw.random() < 0.4:
+            return f"broadcast {one}", [one]
         if self.faults and draw.random() < 0.4:
             one = f"fails({draw.choice(NUMBERS)})"
-        return f"{draw.choice(SPAWNS)} {one}", [one]
+        verbs = ["spawn_broadcast"] if self.casts and draw.random() < 0.4 else SPAWNS
+        return f"{draw.choice(verbs)} {one}", [one]
 
     def scope(self, at):
         """What opens a scope, or spawns into that of the run, and which job it names; None where there is none."""
@@ -173,7 +185,7 @@ class Jobs:
             job = f"fails({draw.choice(NUMBERS)})"
         else:
             job = self.call(at, names if self.one_worker or not self.faults else self.inside)
-        return job and (f"into {job}", [job])
+        return job and (f"{self.entry()} {job}", [job])
 
     def plain(self, chance):
         draw = self.draw
@@ -210,7 +222,7 @@ class Jobs:
             found = 1
             for deed in self.deeds[name]:
                 for turn in range(deed.times):
-                    found += sum(self.count(*call) for call in deed.calls_of(own, turn))
+                    found += deed.each * sum(self.count(*call) for call in deed.calls_of(own, turn))
             self.counts[name, own] = found
         return self.counts[name, own]
 
@@ -277,6 +289,8 @@ class Drawing:
             raise NoScript
         if draw.random() < 0.25:
             return self.scope(pool)
+        if self.kind == "cast" and draw.random() < 0.5:
+            return self.cast(pool, most // MOST_WORKERS)
         chance = draw.random()
         if chance < 0.35:
             return f"install {pool} {one}"
@@ -285,6 +299,12 @@ class Drawing:
         if chance < 0.63:
             return f"{draw.randint(2, 4)} times: install {pool} {one}"
         return f"{draw.choice(SPAWNS)} {pool} {one}"
+
+    def cast(self, pool, most):
+        """A broadcast from outside, of a job that leads to at most so many runs."""
+        if (job := self.jobs.pick(most)) is None:
+            raise NoScript
+        return f"{self.draw.choice(['', '', '3 times: '])}{self.draw.choice(CASTS)} {pool} {job}"
 
     def scope(self, pool):
         """A scope that is opened from outside, in place or with a body on a worker."""

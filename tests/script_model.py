@@ -4,8 +4,9 @@
 usage: tests/script_model.py <SCRIPT
 
 It says the refusals too, of calls for which no level is left and after a pool's end, to which the
-original has no answer. It takes scripts in which main alone calls, no job waits at a gate, and an
-install comes before main prints what detached jobs do (docs/SCRIPTS.md is the language).
+original has no answer. It takes scripts in which main alone calls, nothing is broadcast, no job
+waits at a gate, and an install comes before main prints what detached jobs do (docs/SCRIPTS.md is
+the language).
 """
 import sys
 

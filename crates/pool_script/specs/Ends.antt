@@ -31,7 +31,7 @@ calls_of (act.JoinWith plain second) = second ∷ []
 calls_of (act.JoinInstall first second) = first ∷ second ∷ []
 calls_of (act.Serve gate times) = []
 calls_of (act.Scope shape body) = body ∷ []
-calls_of (act.Into call) = call ∷ []
+calls_of (act.Into entry call) = call ∷ []
 
 -- a line of the job with this number all of whose calls go down
 abbrev pub GoDown : ℕ → Deed → Type 0

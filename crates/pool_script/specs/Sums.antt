@@ -28,19 +28,21 @@ plain_adds (plain.Wait gate times) own turn = Some 0
 plain_adds (plain.Meet gate crowd) own turn = Some 0
 plain_adds plain.Pause own turn = Some 0
 
--- the same of what a line does: a spawn, in order, into a scope or neither, and a wait add 0, and of the calls whose answers
--- are added nothing is said
+-- the same of what a line does: a spawn and a broadcast that waits for nothing, in order, into a scope or neither, and a wait
+-- add 0, and of the calls whose answers are added nothing is said
 abbrev pub act_adds : Act → ℕ → ℕ → Option ℕ
 act_adds (act.Plain done) own turn = plain_adds done own turn
 act_adds (act.One verb.Spawn call) own turn = Some 0
 act_adds (act.One verb.SpawnFifo call) own turn = Some 0
+act_adds (act.One verb.SpawnBroadcast call) own turn = Some 0
 act_adds (act.One verb.Install call) own turn = None
+act_adds (act.One verb.Broadcast call) own turn = None
 act_adds (act.Join first second) own turn = None
 act_adds (act.JoinWith first second) own turn = None
 act_adds (act.JoinInstall first second) own turn = None
 act_adds (act.Serve gate times) own turn = Some 0
 act_adds (act.Scope shape body) own turn = None
-act_adds (act.Into call) own turn = Some 0
+act_adds (act.Into entry call) own turn = Some 0
 
 -- what is added in so many turns, by what is added in each
 abbrev pub over_turns : (ℕ → Option ℕ) → ℕ → Option ℕ

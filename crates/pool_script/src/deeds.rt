@@ -4,7 +4,7 @@ ghost use Rattle.std.specs.Prelude.{ℕ, IfOk, All};
 
 use crate::bad::{Bad, Stop};
 use crate::names::Directory;
-use crate::script::{Act, Deed, Order, Plain, Shape, Verb};
+use crate::script::{Act, Deed, Entry, Order, Plain, Shape, Verb};
 use crate::words::{call_below, digits, number, one, value};
 use std::alloc::Global;
 
@@ -91,11 +91,16 @@ fn act(names: &Directory, job: usize, words: &[&str]) -> Result<Act, Bad>
         ["install", call] => Ok(Act::One(Verb::Install, call_below(names, job, call)?)),
         ["spawn", call] => Ok(Act::One(Verb::Spawn, call_below(names, job, call)?)),
         ["spawn_fifo", call] => Ok(Act::One(Verb::SpawnFifo, call_below(names, job, call)?)),
+        ["broadcast", call] => Ok(Act::One(Verb::Broadcast, call_below(names, job, call)?)),
+        ["spawn_broadcast", call] => {
+            Ok(Act::One(Verb::SpawnBroadcast, call_below(names, job, call)?))
+        }
         ["scope", body] => scope(names, job, Order::Lifo, false, body),
         ["scope_fifo", body] => scope(names, job, Order::Fifo, false, body),
         ["in_place_scope", body] => scope(names, job, Order::Lifo, true, body),
         ["in_place_scope_fifo", body] => scope(names, job, Order::Fifo, true, body),
-        ["into", call] => Ok(Act::Into(call_below(names, job, call)?)),
+        ["into", call] => Ok(Act::Into(Entry::Spawn, call_below(names, job, call)?)),
+        ["into_broadcast", call] => Ok(Act::Into(Entry::Broadcast, call_below(names, job, call)?)),
         ["join", second, "with", "install", first] => {
             let first = call_below(names, job, first)?;
             Ok(Act::JoinInstall(first, call_below(names, job, second)?))

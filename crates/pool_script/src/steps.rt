@@ -41,6 +41,8 @@ fn step(names: &Directory, words: &[&str]) -> Result<Step, Bad> {
         ["install", pool, job] => one(names, pool, Verb::Install, job),
         ["spawn", pool, job] => one(names, pool, Verb::Spawn, job),
         ["spawn_fifo", pool, job] => one(names, pool, Verb::SpawnFifo, job),
+        ["broadcast", pool, job] => one(names, pool, Verb::Broadcast, job),
+        ["spawn_broadcast", pool, job] => one(names, pool, Verb::SpawnBroadcast, job),
         ["join", pool, first, second] => {
             let (first, second) = (call_outside(names, first)?, call_outside(names, second)?);
             Ok(Step::Join(names.pool(pool)?, first, second))

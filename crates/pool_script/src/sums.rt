@@ -29,8 +29,9 @@ impl Act {
     {
         match self {
             Act::Plain(plain) => plain.adds(own, turn),
-            Act::One(Verb::Spawn | Verb::SpawnFifo, _) | Act::Serve(..) | Act::Into(_) => Some(0),
-            Act::One(Verb::Install, _)
+            Act::One(Verb::Spawn | Verb::SpawnFifo | Verb::SpawnBroadcast, _) => Some(0),
+            Act::Serve(..) | Act::Into(..) => Some(0),
+            Act::One(Verb::Install | Verb::Broadcast, _)
             | Act::Join(..)
             | Act::JoinWith(..)
             | Act::JoinInstall(..)

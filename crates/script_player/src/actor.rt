@@ -237,6 +237,25 @@ impl Actor {
             },
             Verb::Spawn => self.spawned(pool.spawn(rt, alloc, job), said),
             Verb::SpawnFifo => self.spawned(pool.spawn_fifo(rt, alloc, job), said),
+            Verb::Broadcast => self.each(pool.broadcast(rt, alloc, job), said),
+            Verb::SpawnBroadcast => self.spawned(pool.spawn_broadcast(rt, alloc, job), said),
+        }
+    }
+
+    // Writes what the pieces of a broadcast answered, by the indices of their workers.
+    fn each(
+        &self,
+        answers: Result<Vec<u64>, CallError<Trouble, Play>>,
+        said: &mut String,
+    ) -> Result<bool, AllocError> {
+        match answers {
+            Ok(answers) => {
+                for answer in answers.iter() {
+                    write!(said, " {answer}")?;
+                }
+                Ok(true)
+            }
+            Err(error) => self.tell(is_fault(&error), trouble_of(error), said),
         }
     }
 

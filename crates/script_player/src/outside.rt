@@ -2,7 +2,7 @@
 use crate::play::Play;
 use crate::scopes::sum_of;
 use crate::stage::{Here, Name, Stage, Trouble};
-use pool_script::script::{Act, Deed, Order, Shape};
+use pool_script::script::{Act, Deed, Entry, Order, Shape};
 use rayon_core::{CallError, InPlaceCalls, PoolRef, Scope};
 use std::alloc::Global;
 use std::sync::{Arc, Wait};
@@ -50,7 +50,7 @@ fn on_worker<R: Wait>(
 ) -> Result<Scoped, CallError<Trouble, Name>> {
     let name = body.name();
     let answer = if in_order {
-        pool.scope_fifo(rt, alloc, body.ordered())
+        pool.scope_fifo(rt, alloc, body.ordered_if(true))
     } else {
         pool.scope(rt, alloc, body)
     };
@@ -177,24 +177,29 @@ impl Place<'_> {
     ) -> Result<u64, Trouble> {
         match act {
             Act::Plain(plain) => self.stage.plain(rt, here, plain),
-            Act::Into(call) => match Play::new(self.stage, here, call)? {
-                Some(job) => self.spawn(rt, alloc, scope, job),
+            Act::Into(entry, call) => match Play::new(self.stage, here, call)? {
+                Some(job) => self.enter(rt, alloc, scope, entry, job),
                 None => Ok(0),
             },
             _ => Err(Trouble::NoWorker),
         }
     }
 
-    // Spawns a job into the scope. Adds nothing.
-    fn spawn<R: Wait>(
+    // Brings a job into the scope so. Adds nothing.
+    fn enter<R: Wait>(
         self,
         rt: &R,
         alloc: Global,
         scope: &mut Scope<Play>,
+        entry: Entry,
         job: Play,
     ) -> Result<u64, Trouble> {
-        let job = if self.in_order { job.ordered() } else { job };
-        match scope.inject(rt, alloc, self.pool, job) {
+        let job = job.ordered_if(self.in_order);
+        let entered = match entry {
+            Entry::Spawn => scope.inject(rt, alloc, self.pool, job),
+            Entry::Broadcast => scope.inject_broadcast(rt, alloc, self.pool, job),
+        };
+        match entered {
             Ok(_number) => Ok(0),
             Err((refusal, job)) => Err(Trouble::Refused(refusal, job.name())),
         }

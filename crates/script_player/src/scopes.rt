@@ -4,9 +4,10 @@ ghost use Rattle.std.specs.Prelude.{◌≡◌, ◌≤◌, ℕ, IfOk, suc};
 
 use crate::play::Play;
 use crate::stage::{Name, Trouble};
-use pool_script::script::{Order, Shape};
+use pool_script::script::{Entry, Order, Shape};
 use rayon_core::{
-    CallError, Done, Ended, FnContext, Refusal, Scope, ScopeCalls, Waits, WorkerThread,
+    BroadcastContext, CallError, Done, Ended, FnContext, Refusal, Scope, ScopeCalls, Waits,
+    WorkerThread,
 };
 use std::alloc::Global;
 use std::sync::Wait;
@@ -16,16 +17,20 @@ use std::sync::Wait;
 pub enum Own<'a> {
     /// The scope that the run's job was spawned into, if it was.
     Job(&'a mut FnContext<Play>, bool),
+    /// The scope that the job was broadcast into of which the run is a piece, if it was.
+    Piece(&'a mut BroadcastContext<Play>, bool),
     /// The scope whose body runs.
     Body(&'a mut Scope<Play>, bool),
 }
 
 impl Own<'_> {
-    /// Spawns a job into the scope. Spawns nothing where there is none. Adds nothing.
-    pub fn spawn<R: Wait>(
+    /// Brings a job into the scope so. Does nothing where there is none. Adds nothing.
+    pub fn enter<R: Wait>(
         &mut self,
         rt: &R,
+        alloc: Global,
         w: &mut WorkerThread<Play>,
+        entry: Entry,
         job: Play,
     ) -> Result<u64, Trouble>
         ensures same { SameWorker w.old w.new }
@@ -33,36 +38,58 @@ impl Own<'_> {
     {
         match self {
             Own::Job(ctx, in_order) => {
-                let in_order = *in_order;
-                match ctx.scope() {
-                    Some(scope) => enter(rt, w, scope, in_order, job),
-                    None => Ok(0),
-                }
+                let job = job.ordered_if(*in_order);
+                enter_any(rt, alloc, w, ctx.scope(), entry, job)
             }
-            Own::Body(scope, in_order) => enter(rt, w, scope, *in_order, job),
+            Own::Piece(ctx, in_order) => {
+                let job = job.ordered_if(*in_order);
+                enter_any(rt, alloc, w, ctx.scope(), entry, job)
+            }
+            Own::Body(scope, in_order) => {
+                enter(rt, alloc, w, scope, entry, job.ordered_if(*in_order))
+            }
         }
     }
 }
 
-// Spawns a job into a scope, in order or not.
-fn enter<R: Wait>(
+// Brings a job into a scope so, if there is one.
+fn enter_any<R: Wait>(
     rt: &R,
+    alloc: Global,
     w: &mut WorkerThread<Play>,
-    scope: &mut Scope<Play>,
-    in_order: bool,
+    scope: Option<&mut Scope<Play>>,
+    entry: Entry,
     job: Play,
 ) -> Result<u64, Trouble>
     ensures same { SameWorker w.old w.new }
     ensures nothing { IfOk result (λ added. added ≡ 0) }
 {
-    if in_order {
-        entered(scope.spawn_fifo(rt, w, job.ordered()))
-    } else {
-        entered(scope.spawn(rt, w, job))
+    match scope {
+        Some(scope) => enter(rt, alloc, w, scope, entry, job),
+        None => Ok(0),
     }
 }
 
-// What is added by a spawn into a scope: nothing.
+// Brings a job into a scope so, in order where the job is.
+fn enter<R: Wait>(
+    rt: &R,
+    alloc: Global,
+    w: &mut WorkerThread<Play>,
+    scope: &mut Scope<Play>,
+    entry: Entry,
+    job: Play,
+) -> Result<u64, Trouble>
+    ensures same { SameWorker w.old w.new }
+    ensures nothing { IfOk result (λ added. added ≡ 0) }
+{
+    match entry {
+        Entry::Broadcast => entered(scope.spawn_broadcast(rt, alloc, w, job)),
+        Entry::Spawn if job.is_ordered() => entered(scope.spawn_fifo(rt, w, job)),
+        Entry::Spawn => entered(scope.spawn(rt, w, job)),
+    }
+}
+
+// What is added by bringing a job into a scope: nothing.
 fn entered(entered: Result<u64, (Refusal, Play)>) -> Result<u64, Trouble>
     ensures { IfOk result (λ added. added ≡ 0) }
 {
@@ -108,6 +135,15 @@ pub fn scoped<B: Drop>(
         Err(CallError::Foreign | CallError::Missing) => return Err(Trouble::Lost),
     };
     Ok(ended.value.wrapping_add(sum_of(&ended.outputs)?))
+}
+
+/// The sum of what the pieces of a broadcast answered, modulo 2^64.
+pub fn sum_of_pieces(answers: &[u64]) -> u64 {
+    let mut sum = 0_u64;
+    for answer in answers {
+        sum = sum.wrapping_add(*answer);
+    }
+    sum
 }
 
 /// The sum of the outputs of a scope's jobs, modulo 2^64.

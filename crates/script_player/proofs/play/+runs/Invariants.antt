@@ -27,7 +27,6 @@ invariant-Play::run_in-loop-deed g l =
     (l.w.id ≡ l.initial.w.id)
     × (l.w.levels ≡ l.initial.w.levels)
     × (l.w.units ≡ l.initial.w.units)
-    × (l.w.seat ≡ l.initial.w.seat)
     × (l.w.shape ≡ l.initial.w.shape)
     × says (sum_of (take l.deed-index l.deed-items) l.here.number) l.answer
 
@@ -36,7 +35,6 @@ invariant-repeat-loop-turn g l =
     (l.w.id ≡ l.initial.w.id)
     × (l.w.levels ≡ l.initial.w.levels)
     × (l.w.units ≡ l.initial.w.units)
-    × (l.w.seat ≡ l.initial.w.seat)
     × (l.w.shape ≡ l.initial.w.shape)
     × says (over_turns (act_adds l.deed.act l.here.number) l.turn) l.added
     × (takes l.deed l.here.number ≡ true)

@@ -14,12 +14,15 @@ pub enum Trouble {
 }
 
 /// How many pieces each worker of a pool has run, and of how many faults of its pieces a handler was told, by index;
-/// and how many pieces, and faults, are not as they ought to be.
+/// how many pieces, and faults, are not as they ought to be; how many broadcasts were too deep; and how many shares of
+/// the tally there were when a broadcast by a worker had been answered.
 #[derive(Drop)]
 pub struct Tally {
     ran: Vec<AtomicU64>,
     told: Vec<AtomicU64>,
     wrong: AtomicU64,
+    too_deep: AtomicU64,
+    shares: AtomicU64,
 }
 
 impl Tally {
@@ -29,6 +32,8 @@ impl Tally {
             ran: counts(alloc, workers)?,
             told: counts(alloc, workers)?,
             wrong: AtomicU64::new(0),
+            too_deep: AtomicU64::new(0),
+            shares: AtomicU64::new(0),
         };
         Arc::new(alloc, tally).map_err(|_| Trouble::Lost)
     }
@@ -50,6 +55,16 @@ impl Tally {
         count.fetch_add(1, Ordering::SeqCst);
     }
 
+    /// Counts a broadcast that was refused, since no level was left.
+    pub fn count_too_deep(&self) {
+        self.too_deep.fetch_add(1, Ordering::SeqCst);
+    }
+
+    /// Keeps that there are so many shares of the tally, where a broadcast has been answered.
+    pub fn keep_shares(&self, shares: usize) {
+        self.shares.store(shares as u64, Ordering::SeqCst);
+    }
+
     /// The fewest and the most pieces that a worker has run, and how many pieces and faults were wrong.
     pub fn pieces(&self) -> (u64, u64, u64) {
         let (mut fewest, mut most) = (u64::MAX, 0);
@@ -59,6 +74,16 @@ impl Tally {
             most = most.max(count);
         }
         (fewest, most, self.wrong.load(Ordering::SeqCst))
+    }
+
+    /// How many broadcasts were refused, since no level was left.
+    pub fn too_deep(&self) -> u64 {
+        self.too_deep.load(Ordering::SeqCst)
+    }
+
+    /// How many shares of the tally there were when the last broadcast by a worker had been answered.
+    pub fn shares(&self) -> u64 {
+        self.shares.load(Ordering::SeqCst)
     }
 
     /// Whether a handler was told so many faults of each worker of an even index, and none of the others.

@@ -1,7 +1,8 @@
 //! The tests.
-use crate::errand::{Deed, Errand, Teller, outcome};
+use crate::errand::{Deed, Errand, outcome};
+use crate::pools::{Left, ended, pool_of, pool_with};
 use crate::tally::{Tally, Trouble};
-use rayon_core::{Ids, JobKind, PoolRef, Refusal, ThreadPool, ThreadPoolBuilder};
+use rayon_core::{JobKind, PoolRef, Refusal};
 use std::alloc::Global;
 use std::process::Abort;
 use std::sync::{Arc, Barrier, Wait};
@@ -9,31 +10,6 @@ use std::test::Fail;
 use std::thread;
 use std::thread::{JoinHandle, Threads};
 use std::time::{Clock, Duration};
-
-// A pool of so many workers, which tells a handler that counts here, if it is to have one.
-fn pool_with<R: Threads + Wait + Abort + Copy + Send + 'static>(
-    rt: &R,
-    alloc: Global,
-    workers: usize,
-    told: Option<&Arc<Tally>>,
-) -> ThreadPool<Errand> {
-    let builder = ThreadPoolBuilder::new().num_threads(workers);
-    let builder = match told {
-        Some(tally) => builder.panic_handler(Teller::new(tally).expect(rt, "room")),
-        None => builder,
-    };
-    builder.build(rt, alloc, &Ids::new()).expect(rt, "a pool")
-}
-
-// A pool of so many workers, and what the pieces of its broadcasts leave behind.
-fn pool_of<R: Threads + Wait + Abort + Copy + Send + 'static>(
-    rt: &R,
-    alloc: Global,
-    workers: usize,
-) -> (ThreadPool<Errand>, Arc<Tally>) {
-    let tally = Tally::new(alloc, workers).expect(rt, "room");
-    (pool_with(rt, alloc, workers, None), tally)
-}
 
 // A gate for so many workers and one more thread, and a share of it.
 fn gate_of<R: Abort>(rt: &R, alloc: Global, workers: usize) -> (Arc<Barrier>, Arc<Barrier>) {
@@ -117,40 +93,6 @@ fn convener<R: Threads + Wait + Abort + Copy + Send + 'static>(
             broadcast_meetings(&theirs, alloc, &pool, &tally, times);
         })
         .expect(rt, "a thread")
-}
-
-// What a pool has left once it was ended.
-#[derive(Clone, Copy, Debug, PartialEq, Eq)]
-struct Left {
-    // The fewest and the most pieces that a worker has run, and how many pieces and faults were wrong.
-    pieces: (u64, u64, u64),
-    // How many faults it has kept.
-    faults: u64,
-    // How many jobs were not let go.
-    jobs: usize,
-}
-
-impl Left {
-    // Each worker has run so many pieces, and all went well.
-    fn each(pieces: u64) -> Left {
-        Left {
-            pieces: (pieces, pieces, 0),
-            faults: 0,
-            jobs: 0,
-        }
-    }
-}
-
-// Ends the pool. Answers what it has left.
-fn ended<R: Threads + Wait + Abort>(rt: &R, pool: ThreadPool<Errand>, tally: &Arc<Tally>) -> Left {
-    let shared = pool.pool_ref().expect(rt, "room");
-    pool.end_and_join(rt);
-    let (_, faults) = shared.take_fault(rt);
-    Left {
-        pieces: tally.pieces(),
-        faults,
-        jobs: Arc::strong_count(tally).saturating_sub(1),
-    }
 }
 
 // Of a broadcast from outside each worker has run the piece that was told its index, and the number of workers, once

@@ -2,16 +2,18 @@
 ghost use Rattle.rayon_core.specs.Worker.{SameWorker};
 ghost use Rattle.std.specs.Prelude.{◌≡◌, ◌≤◌};
 
+use crate::broadcasts::{cast_into, gather, piece};
 use crate::scopes::{Endings, fill, open, open_by_job};
 use rayon_core::latch::LockLatch;
 use rayon_core::{
     BroadcastContext, CallError, FnContext, Job, JobKind, NoHandler, Refusal, Waits, WorkerThread,
 };
 use rayon_global::{
-    current_num_threads, current_thread_index, install, join, join_context, spawn, spawn_fifo,
+    current_num_threads, current_thread_index, install, join, join_context, spawn, spawn_broadcast,
+    spawn_fifo,
 };
 use std::alloc::Global;
-use std::sync::Arc;
+use std::sync::{Arc, Barrier};
 
 /// A job.
 #[derive(Drop)]
@@ -36,6 +38,14 @@ pub enum Deed {
     Fill(Endings),
     /// Has such a job for the body of a scope, and answers the scope's digits.
     OpenByJob(Endings),
+    /// Broadcasts such a job and waits for it, and answers the digits of what its pieces answered: each the index of its
+    /// worker and one, but the piece of this index faults, if there is one.
+    Gather(Option<usize>),
+    /// Broadcasts such a job and waits for nothing. Its pieces come to this gate.
+    Cast(Arc<Barrier>),
+    /// Opens a scope, broadcasts two jobs of the kind `Gather` into it, of which the second's piece of this index faults,
+    /// if there is one, and answers the digits of the first one's pieces.
+    CastInto(Option<usize>),
 }
 
 impl JobKind for Deed {
@@ -83,17 +93,27 @@ impl Job for Deed {
             Deed::Open(ends) => open(rt, alloc, w, ends),
             Deed::Fill(ends) => fill(rt, alloc, w, ctx, ends),
             Deed::OpenByJob(ends) => open_by_job(rt, alloc, w, ends),
+            Deed::Gather(fault) => gather(rt, alloc, w, fault),
+            Deed::Cast(gate) => spawned(spawn_broadcast(rt, alloc, w, Deed::Cast(gate))),
+            Deed::CastInto(fault) => cast_into(rt, alloc, w, fault),
         }
     }
 
     fn run_on<R: Waits<Self>>(
         &self,
-        _rt: &R,
+        rt: &R,
         _alloc: Global,
         _w: &mut WorkerThread<Self>,
-        _ctx: &mut BroadcastContext<Self>,
+        ctx: &mut BroadcastContext<Self>,
     ) -> Result<u64, Refusal> {
-        Err(Refusal::Ended)
+        match self {
+            Deed::Gather(fault) => piece(ctx.index(), *fault),
+            Deed::Cast(gate) => {
+                gate.wait(rt);
+                Ok(0)
+            }
+            _ => Err(Refusal::Ended),
+        }
     }
 }
 

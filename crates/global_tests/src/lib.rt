@@ -2,6 +2,8 @@
 #![tactic(auto)]
 
 #[cfg(test)]
+mod broadcasts;
+#[cfg(test)]
 mod deed;
 #[cfg(test)]
 mod scopes;

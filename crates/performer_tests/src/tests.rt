@@ -1,5 +1,5 @@
 //! The tests.
-ghost use Rattle.rayon_performers.specs.Seats.{Resting};
+ghost use Rattle.rayon_shared.specs.Seats.{Resting};
 ghost use Rattle.std.specs.Arc.{arc_value};
 ghost use Rattle.std.specs.Prelude.{◌≡◌, ◌<◌};
 
@@ -7,8 +7,9 @@ use crate::errand::Errand;
 use rayon_broadcasts::SharedJob;
 use rayon_guests::{Guest, Load};
 use rayon_machine_places::place::{Ending, OpenCall, Party, Plan, Then};
-use rayon_performers::{Bench, PoolHold, Registry, WorkerKit};
+use rayon_performers::Bench;
 use rayon_queues::XorShift64Star;
+use rayon_shared::{PoolHold, Registry, WorkerKit};
 use rayon_tasks::{Task, Ticket, Work, pieces_of, task_parts};
 use rayon_words::Refusal;
 use std::alloc::Global;
@@ -64,6 +65,7 @@ impl Lone {
     ) -> (Bench<Errand>, Arc<Registry<Task<Errand>>, Global>, PoolHold)
         ensures rests { Resting result.0.chair }
         ensures own { result.2 ≡ (arc_value result.1).count }
+        ensures one { (result.0.shape.workers ≡ 1) × ((arc_value result.1).workers ≡ 1) }
     {
         let Lone {
             registry,
@@ -75,19 +77,31 @@ impl Lone {
     }
 }
 
-// A worker's installs and joins on a pool that has ended are refused, with the job back, and a caller's too. The pool
-// has ended once the units of the worker and of the pool's value were given back.
-#[test]
-fn an_ended_pool_refuses(rt: HostRuntime) -> Result<(), Fail> {
-    let alloc = rt.alloc();
-    let (mut bench, registry, hold) = Lone::new(&rt, alloc).into_parts(&rt);
-    assert_eq!(rt; bench.open_install(&rt, 0), Ok(()));
+// A pool of one worker that has ended, since the units of the worker and of the pool's value were given back, and the
+// worker.
+fn ended_pool<R: Wait + Abort>(
+    rt: &R,
+    alloc: Global,
+) -> (Bench<Errand>, Arc<Registry<Task<Errand>>, Global>)
+    ensures rests { Resting result.0.chair }
+    ensures one { (result.0.shape.workers ≡ 1) × ((arc_value result.1).workers ≡ 1) }
+{
+    let (mut bench, registry, hold) = Lone::new(rt, alloc).into_parts(rt);
+    assert_eq!(rt; bench.open_install(rt, 0), Ok(()));
     let then = Then::Ran {
         job: 0,
         ending: Ending::Fine,
     };
-    bench.lower_then(&rt, 0, then);
-    end(&rt, &registry, hold);
+    bench.lower_then(rt, 0, then);
+    end(rt, &registry, hold);
+    (bench, registry)
+}
+
+// A worker's installs and joins on a pool that has ended are refused, with the job back, and a caller's too.
+#[test]
+fn an_ended_pool_refuses(rt: HostRuntime) -> Result<(), Fail> {
+    let alloc = rt.alloc();
+    let (mut bench, registry) = ended_pool(&rt, alloc);
     let installed = bench.open_install(&rt, 2);
     let offered = match bench.offer(&rt, alloc, 4, Errand(7), false) {
         Ok(_) => None,
@@ -105,6 +119,25 @@ fn an_ended_pool_refuses(rt: HostRuntime) -> Result<(), Fail> {
     assert_eq!(rt; installed, Err(Refusal::Ended));
     assert_eq!(rt; offered, Some((Refusal::Ended, 7)));
     assert_eq!(rt; sent, Some((Refusal::Ended, 6)));
+    Ok(())
+}
+
+// So is a broadcast that waits, by the worker or a caller: the job comes back, and no piece is queued.
+#[test]
+fn an_ended_pool_refuses_broadcasts(rt: HostRuntime) -> Result<(), Fail> {
+    let alloc = rt.alloc();
+    let (mut bench, registry) = ended_pool(&rt, alloc);
+    let by_worker = match bench.open_broadcast(&rt, alloc, 2, 4, Errand(7)) {
+        Ok(_) => None,
+        Err((refusal, job)) => Some((refusal, job.0)),
+    };
+    let from_outside = match Guest::new(&registry).broadcast(&rt, alloc, 1, 3, Errand(6)) {
+        Ok(_) => None,
+        Err((refusal, job)) => Some((refusal, job.0)),
+    };
+    assert_eq!(rt; by_worker, Some((Refusal::Ended, 7)));
+    assert_eq!(rt; from_outside, Some((Refusal::Ended, 6)));
+    assert_eq!(rt; name_and_errand(bench.take_local(&rt)), None);
     Ok(())
 }
 

@@ -1,12 +1,14 @@
 //! Tests of what broadcasts are made of: the lists of their pieces by worker, and the book of what these answered. The
 //! function with a clause shows what a caller may conclude from the calls' contracts.
 ghost use Rattle.std.proofs.Common.{rules};
-ghost use Rattle.std.specs.Prelude.{◌≡◌, ◌+◌, IfOk, IfSome};
+ghost use Rattle.std.specs.Prelude.{◌≡◌, ◌+◌, ℕ, slice_get, IfOk, IfSome, Some};
 
+use rayon_books::ScopeBook;
 use rayon_broadcasts::{
-    BroadcastBook, BroadcastCore, BroadcastLists, BroadcastQueue, NoAnswers, SharedJob, Unpushed,
+    BroadcastLists, BroadcastQueue, NoAnswers, SharedJob, Unpushed, outputs_of,
 };
 use rayon_jobs::{Done, JobKind, NoHandler};
+use rayon_tasks::{CallCore, Ticket};
 use rayon_words::Refusal;
 use std::alloc::Global;
 use std::sync::{Arc, Wait};
@@ -78,14 +80,14 @@ fn failed(number: u64, index: usize, workers: usize, fault: u64) -> Done<Share> 
 // Runs the piece of this index, of so many: it answers by the job that was put in. Whether it was the last to end.
 fn run_piece<R: Wait>(
     rt: &R,
-    core: &BroadcastCore<Share>,
+    core: &CallCore<Share>,
     job: &SharedJob<Share>,
     index: usize,
     workers: usize,
 ) -> Option<bool> {
     let number = job.job()?.tag();
     let mut book = core.book().hold(rt);
-    let unstored = book.store(index, piece(number, index, workers));
+    let unstored = book.store_piece(index, piece(number, index, workers));
     let left = core.book().leave(rt, book);
     let mut seat = core.count().guest_seat();
     let was_last = core.count().set(rt, &mut seat);
@@ -97,16 +99,19 @@ fn run_piece<R: Wait>(
 fn run_on_threads<R: Threads + Wait + Copy + Send + 'static>(
     rt: &R,
     alloc: Global,
-    core: &Arc<BroadcastCore<Share>>,
+    call: &Ticket<Share>,
     job: &SharedJob<Share>,
     workers: usize,
 ) -> Option<usize> {
     let mut threads = Vec::new(alloc);
     for index in 0..workers {
         let theirs = *rt;
-        let their_core = Arc::try_clone(core).ok()?;
+        let ticket = call.share().ok()?;
         let their_job = job.share().ok()?;
-        let run = move || run_piece(&theirs, &their_core, &their_job, index, workers);
+        let run = move || {
+            let core = ticket.broadcast()?;
+            run_piece(&theirs, core, &their_job, index, workers)
+        };
         threads.push(thread::spawn(rt, run).ok()?).ok()?;
     }
     let mut last = 0_usize;
@@ -116,11 +121,32 @@ fn run_on_threads<R: Threads + Wait + Copy + Send + 'static>(
     Some(last)
 }
 
-// The output of the piece of this index, where the broadcast with this number has one.
-fn share_of(book: &mut BroadcastBook<Share>, number: u64, index: usize) -> Option<u64>
+// What the broadcast with this number gives to so many workers, by its book. `Missing` for want of memory.
+fn answers(
+    alloc: Global,
+    book: &mut ScopeBook<Share>,
+    number: u64,
+    workers: usize,
+) -> Result<Vec<u64>, NoAnswers<u64>>
+    ensures { IfOk result (λ v. (i : ℕ) (o : _) → slice_get v.items i ≡ Some o → o ≡ number + i) }
+{
+    let Ok(ready) = Vec::with_capacity(alloc, workers) else {
+        return Err(NoAnswers::Missing);
+    };
+    outputs_of(book.runs(), ready, &number, workers)
+}
+
+// The output of the piece of this index, where the broadcast with this number to so many workers has one.
+fn share_of(
+    alloc: Global,
+    book: &mut ScopeBook<Share>,
+    number: u64,
+    workers: usize,
+    index: usize,
+) -> Option<u64>
     ensures { IfSome result (λ o. o ≡ number + index) }
 {
-    let outputs = book.outputs(&number).ok()?;
+    let outputs = answers(alloc, book, number, workers).ok()?;
     let output = outputs.get(index)?;
     Some(*output)
 }
@@ -290,20 +316,25 @@ fn workers_take_pieces_while_others_come(rt: HostRuntime) -> Result<(), Fail> {
 fn too_many_workers_are_refused(rt: HostRuntime) -> Result<(), Fail> {
     let lists: Result<BroadcastLists<u64>, Refusal> = BroadcastLists::new(rt.alloc(), usize::MAX);
     assert!(rt; matches!(lists, Err(Refusal::NoRoom)));
-    let book: Result<BroadcastBook<Share>, Refusal> = BroadcastBook::new(rt.alloc(), usize::MAX);
+    let book: Result<ScopeBook<Share>, Refusal> = ScopeBook::of_pieces(rt.alloc(), usize::MAX);
     assert!(rt; matches!(book, Err(Refusal::NoRoom)));
     Ok(())
 }
 
 #[test]
 fn a_place_takes_one_result(rt: HostRuntime) -> Result<(), Fail> {
-    let mut book = BroadcastBook::new(rt.alloc(), 2)?;
-    assert!(rt; book.store(1, whole(5)).is_none());
-    assert!(rt; matches!(book.store(1, whole(6)), Some(back) if *back.tag() == 6));
-    assert!(rt; matches!(book.store(2, whole(7)), Some(back) if *back.tag() == 7));
-    assert!(rt; matches!(book.outputs(&5), Err(NoAnswers::Missing)));
-    assert!(rt; matches!(book.store(1, whole(8)), Some(back) if *back.tag() == 8));
-    assert!(rt; matches!(book.outputs(&5), Ok(outputs) if outputs.is_empty()));
+    let mut book = ScopeBook::of_pieces(rt.alloc(), 2)?;
+    assert!(rt; book.store_piece(1, whole(5)).is_none());
+    assert!(rt; matches!(book.store_piece(1, whole(6)), Some(back) if *back.tag() == 6));
+    assert!(rt; matches!(book.store_piece(2, whole(7)), Some(back) if *back.tag() == 7));
+    assert!(rt;
+        matches!(
+            answers(rt.alloc(), &mut book, 5, 2),
+            Err(NoAnswers::Missing)
+        )
+    );
+    assert!(rt; matches!(book.store_piece(1, whole(8)), Some(back) if *back.tag() == 8));
+    assert!(rt; matches!(answers(rt.alloc(), &mut book, 5, 0), Ok(outputs) if outputs.is_empty()));
     Ok(())
 }
 
@@ -317,12 +348,15 @@ fn outputs_stand_by_index_whenever_they_are_stored(rt: HostRuntime) -> Result<()
         [2, 0, 1],
         [2, 1, 0],
     ] {
-        let mut book = BroadcastBook::new(rt.alloc(), 3)?;
+        let mut book = ScopeBook::of_pieces(rt.alloc(), 3)?;
         for index in order {
-            assert!(rt; book.store(index, piece(5, index, 3)).is_none());
+            assert!(rt; book.store_piece(index, piece(5, index, 3)).is_none());
         }
         assert!(rt;
-            matches!(book.outputs(&5), Ok(outputs) if outputs.as_slice() == [5, 6, 7].as_slice())
+            matches!(
+                answers(rt.alloc(), &mut book, 5, 3),
+                Ok(outputs) if outputs.as_slice() == [5, 6, 7].as_slice()
+            )
         );
     }
     Ok(())
@@ -338,52 +372,112 @@ fn the_fault_of_the_lowest_index_is_answered(rt: HostRuntime) -> Result<(), Fail
         [3, 1, 2],
         [3, 2, 1],
     ] {
-        let mut book = BroadcastBook::new(rt.alloc(), 4)?;
+        let mut book = ScopeBook::of_pieces(rt.alloc(), 4)?;
+        let mut back = 0_u64;
         for index in order {
-            assert!(rt;
-                book.store(index, failed(5, index, 4, index as u64))
-                    .is_none()
-            );
+            let unkept = book.store_piece(index, failed(5, index, 4, index as u64));
+            back = back.saturating_add(u64::from(unkept.is_some()));
         }
-        assert!(rt; book.store(0, piece(5, 0, 4)).is_none());
-        assert!(rt; matches!(book.outputs(&5), Err(NoAnswers::Fault(1))));
+        assert_eq!(rt; back, 2);
+        assert!(rt; book.store_piece(0, piece(5, 0, 4)).is_none());
+        assert!(rt;
+            matches!(
+                answers(rt.alloc(), &mut book, 5, 4),
+                Err(NoAnswers::Fault(1))
+            )
+        );
     }
     Ok(())
 }
 
 #[test]
 fn a_piece_of_another_place_or_broadcast_is_foreign(rt: HostRuntime) -> Result<(), Fail> {
-    for other in [
-        piece(5, 0, 2),
-        piece(5, 1, 3),
-        piece(6, 1, 2),
-        failed(5, 0, 2, 9),
-        whole(5),
-    ] {
-        let mut book = BroadcastBook::new(rt.alloc(), 2)?;
-        assert!(rt; book.store(0, piece(5, 0, 2)).is_none());
-        assert!(rt; book.store(1, other).is_none());
-        assert!(rt; matches!(book.outputs(&5), Err(NoAnswers::Foreign)));
+    for other in [piece(5, 0, 2), piece(5, 1, 3), piece(6, 1, 2), whole(5)] {
+        let mut book = ScopeBook::of_pieces(rt.alloc(), 2)?;
+        assert!(rt; book.store_piece(0, piece(5, 0, 2)).is_none());
+        assert!(rt; book.store_piece(1, other).is_none());
+        assert!(rt;
+            matches!(
+                answers(rt.alloc(), &mut book, 5, 2),
+                Err(NoAnswers::Foreign)
+            )
+        );
     }
     Ok(())
 }
 
 #[test]
 fn the_first_place_without_an_output_decides(rt: HostRuntime) -> Result<(), Fail> {
-    let mut first = BroadcastBook::new(rt.alloc(), 2)?;
-    assert!(rt; first.store(0, whole(5)).is_none());
-    assert!(rt; matches!(first.outputs(&5), Err(NoAnswers::Foreign)));
-    let mut second = BroadcastBook::new(rt.alloc(), 2)?;
-    assert!(rt; second.store(1, whole(5)).is_none());
-    assert!(rt; matches!(second.outputs(&5), Err(NoAnswers::Missing)));
-    let mut third = BroadcastBook::new(rt.alloc(), 2)?;
-    assert!(rt; third.store(1, failed(5, 1, 2, 9)).is_none());
-    assert!(rt; matches!(third.outputs(&5), Err(NoAnswers::Missing)));
-    let mut none = BroadcastBook::new(rt.alloc(), 0)?;
-    assert_eq!(rt; share_of(&mut none, 5, 0), None);
-    let mut one = BroadcastBook::new(rt.alloc(), 1)?;
-    assert!(rt; one.store(0, piece(5, 0, 1)).is_none());
-    assert_eq!(rt; share_of(&mut one, 5, 0), Some(5));
+    let mut first = ScopeBook::of_pieces(rt.alloc(), 2)?;
+    assert!(rt; first.store_piece(0, whole(5)).is_none());
+    assert!(rt;
+        matches!(
+            answers(rt.alloc(), &mut first, 5, 2),
+            Err(NoAnswers::Foreign)
+        )
+    );
+    let mut second = ScopeBook::of_pieces(rt.alloc(), 2)?;
+    assert!(rt; second.store_piece(1, whole(5)).is_none());
+    assert!(rt;
+        matches!(
+            answers(rt.alloc(), &mut second, 5, 2),
+            Err(NoAnswers::Missing)
+        )
+    );
+    let mut third = ScopeBook::of_pieces(rt.alloc(), 2)?;
+    assert!(rt; third.store_piece(1, failed(5, 1, 2, 9)).is_none());
+    assert!(rt;
+        matches!(
+            answers(rt.alloc(), &mut third, 5, 2),
+            Err(NoAnswers::Missing)
+        )
+    );
+    let mut fourth = ScopeBook::of_pieces(rt.alloc(), 2)?;
+    assert!(rt; fourth.store_piece(0, failed(5, 1, 2, 9)).is_none());
+    assert!(rt;
+        matches!(
+            answers(rt.alloc(), &mut fourth, 5, 2),
+            Err(NoAnswers::Missing)
+        )
+    );
+    let mut none = ScopeBook::of_pieces(rt.alloc(), 0)?;
+    assert_eq!(rt; share_of(rt.alloc(), &mut none, 5, 0, 0), None);
+    let mut one = ScopeBook::of_pieces(rt.alloc(), 1)?;
+    assert!(rt; one.store_piece(0, piece(5, 0, 1)).is_none());
+    assert_eq!(rt; share_of(rt.alloc(), &mut one, 5, 1, 0), Some(5));
+    Ok(())
+}
+
+#[test]
+fn runs_of_another_number_are_missing(rt: HostRuntime) -> Result<(), Fail> {
+    for workers in [2, 4] {
+        let mut book = ScopeBook::of_pieces(rt.alloc(), 3)?;
+        for index in 0..3 {
+            assert!(rt; book.store_piece(index, piece(5, index, workers)).is_none());
+        }
+        assert!(rt;
+            matches!(
+                answers(rt.alloc(), &mut book, 5, workers),
+                Err(NoAnswers::Missing)
+            )
+        );
+    }
+    Ok(())
+}
+
+#[test]
+fn runs_are_given_as_far_as_the_first_empty_place(rt: HostRuntime) -> Result<(), Fail> {
+    let mut book = ScopeBook::of_pieces(rt.alloc(), 4)?;
+    for index in [3, 1, 0] {
+        assert!(rt; book.store_piece(index, piece(5, index, 4)).is_none());
+    }
+    let runs = book.runs();
+    let places = (
+        runs.get(0).and_then(|run| run.place()),
+        runs.get(1).and_then(|run| run.place()),
+    );
+    assert_eq!(rt; (places, runs.len()), ((Some((0, 4)), Some((1, 4))), 2));
+    assert!(rt; book.runs().is_empty());
     Ok(())
 }
 
@@ -422,18 +516,25 @@ fn a_shared_job_is_waited_for(rt: HostRuntime) -> Result<(), Fail> {
 
 #[test]
 fn pieces_that_have_not_ended_are_counted(rt: HostRuntime) -> Result<(), Fail> {
-    let core: BroadcastCore<Share> = BroadcastCore::new(rt.alloc(), 7, 3)?;
+    let call: Ticket<Share> = Ticket::of_callers_broadcast(rt.alloc(), 2, 7, 3)?;
+    assert!(rt; call.scope().is_none());
+    let core = call.broadcast().expect(&rt, "a broadcast");
     assert_eq!(rt; core.call(), 7);
     let mut seat = core.count().guest_seat();
     assert_eq!(rt; core.count().load(&mut seat), 3);
     let mut book = core.book().hold(&rt);
-    assert!(rt; book.store(2, piece(5, 2, 3)).is_none());
-    assert!(rt; book.store(3, piece(5, 3, 3)).is_some());
+    assert!(rt; book.store_piece(2, piece(5, 2, 3)).is_none());
+    assert!(rt; book.store_piece(3, piece(5, 3, 3)).is_some());
     assert!(rt; core.book().leave(&rt, book).is_ok());
     assert!(rt; !core.count().set(&rt, &mut seat));
     assert!(rt; !core.count().set(&rt, &mut seat));
     assert!(rt; core.count().set(&rt, &mut seat));
-    let huge: Result<BroadcastCore<Share>, Refusal> = BroadcastCore::new(rt.alloc(), 7, usize::MAX);
+    let huge: Result<Ticket<Share>, Refusal> = Ticket::of_callers_broadcast(
+        rt.alloc(),
+        2,
+        7,
+        usize::MAX,
+    );
     assert!(rt; matches!(huge, Err(Refusal::NoRoom)));
     Ok(())
 }
@@ -441,14 +542,17 @@ fn pieces_that_have_not_ended_are_counted(rt: HostRuntime) -> Result<(), Fail> {
 #[test]
 fn pieces_on_threads_share_a_job(rt: HostRuntime) -> Result<(), Fail> {
     for workers in [1, 2, 4, 16] {
-        let core = Arc::new(rt.alloc(), BroadcastCore::new(rt.alloc(), 7, workers)?)?;
+        let call = Ticket::of_callers_broadcast(rt.alloc(), 2, 7, workers)?;
         let job = SharedJob::new(rt.alloc())?;
         assert!(rt; fill(rt.alloc(), &job, Share(5)));
         assert_eq!(rt;
-            run_on_threads(&rt, rt.alloc(), &core, &job, workers),
+            run_on_threads(&rt, rt.alloc(), &call, &job, workers),
             Some(1)
         );
-        let outputs = core.book().hold(&rt).outputs(&5).ok();
+        let core = call.broadcast().expect(&rt, "a broadcast");
+        let mut book = core.book().hold(&rt);
+        let outputs = answers(rt.alloc(), &mut book, 5, workers).ok();
+        assert!(rt; core.book().leave(&rt, book).is_ok());
         let mut found = 0_u64;
         for output in outputs.into_iter().flatten() {
             assert_eq!(rt; output, found.saturating_add(5));

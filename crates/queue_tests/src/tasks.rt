@@ -128,16 +128,15 @@ fn pieces_have_names_in_a_row_and_one_job(rt: HostRuntime) -> Result<(), Fail> {
     let ticket: Ticket<Errand> = Ticket::of_detached(rt.alloc(), Party::Caller(0), 3)?;
     let place = SharedJob::new(rt.alloc())?;
     let pieces = pieces_of(rt.alloc(), &place, &ticket, 100, 3)?;
-    let mut name = 100;
+    let mut names = 100..103;
     for piece in pieces {
-        assert_eq!(rt; piece.number(), name);
+        assert_eq!(rt; Some(piece.number()), names.next());
         assert!(rt; piece.has_job() && !piece.is_single() && !piece.injected());
         let (work, _, share) = task_parts(piece);
         assert!(rt; matches!(work, Work::Piece(_)));
         assert!(rt; share.is_detached() && share.is_alone());
-        name += 1;
     }
-    assert_eq!(rt; name, 103);
+    assert_eq!(rt; names.next(), None);
     Ok(())
 }
 

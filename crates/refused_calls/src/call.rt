@@ -1,8 +1,8 @@
 //! The calls that the program makes, and what they give.
-use crate::in_place::{in_place_scope, pool_scope};
+use crate::in_place::{in_place_broadcast, in_place_scope, pool_scope};
 use crate::on_worker::WorkerCall;
 use crate::outcome::{NoPool, Outcome, Report};
-use crate::work::{Answer, Deed, Desk, Name, Work, joined, spawned};
+use crate::work::{Answer, Deed, Desk, Name, Work, gathered, joined, spawned};
 use rayon_core::{CallError, Ids, Refusal, ThreadPool, ThreadPoolBuilder};
 use std::alloc::Global;
 use std::str;
@@ -29,10 +29,14 @@ pub enum PoolCall {
     Spawn,
     /// `PoolRef::spawn_broadcast`.
     Broadcast,
+    /// `PoolRef::broadcast`, which waits.
+    Gather,
     /// `PoolRef::scope`, with a job as its body.
     Scope,
     /// `InPlaceCalls::in_place_scope`, with two spawns.
     InPlaceScope,
+    /// The same, with two broadcasts.
+    InPlaceBroadcast,
     /// A call on a worker of the pool.
     OnWorker(WorkerCall),
 }
@@ -47,13 +51,17 @@ impl Call {
             "pool_join" => Call::OnPool(PoolCall::Join),
             "pool_spawn" => Call::OnPool(PoolCall::Spawn),
             "pool_broadcast" => Call::OnPool(PoolCall::Broadcast),
+            "pool_gather" => Call::OnPool(PoolCall::Gather),
             "pool_scope" => Call::OnPool(PoolCall::Scope),
             "in_place_scope" => Call::OnPool(PoolCall::InPlaceScope),
+            "in_place_broadcast" => Call::OnPool(PoolCall::InPlaceBroadcast),
             "spawn" => Call::OnPool(PoolCall::OnWorker(WorkerCall::Spawn)),
             "spawn_fifo" => Call::OnPool(PoolCall::OnWorker(WorkerCall::SpawnFifo)),
             "broadcast" => Call::OnPool(PoolCall::OnWorker(WorkerCall::Broadcast)),
+            "gather" => Call::OnPool(PoolCall::OnWorker(WorkerCall::Gather)),
             "scope" => Call::OnPool(PoolCall::OnWorker(WorkerCall::Scope)),
             "scope_fifo" => Call::OnPool(PoolCall::OnWorker(WorkerCall::ScopeFifo)),
+            "scope_broadcast" => Call::OnPool(PoolCall::OnWorker(WorkerCall::ScopeBroadcast)),
             "join" => Call::OnPool(PoolCall::OnWorker(WorkerCall::Join)),
             "worker_install" => Call::OnPool(PoolCall::OnWorker(WorkerCall::Install)),
             "wait_until" => Call::OnPool(PoolCall::OnWorker(WorkerCall::WaitUntil)),
@@ -79,7 +87,10 @@ impl PoolCall {
                 | WorkerCall::ScopeFifo
                 | WorkerCall::Deep,
             ) => 1,
-            PoolCall::Broadcast | PoolCall::OnWorker(WorkerCall::Broadcast) => 3,
+            PoolCall::Broadcast | PoolCall::Gather | PoolCall::InPlaceBroadcast => 3,
+            PoolCall::OnWorker(
+                WorkerCall::Broadcast | WorkerCall::Gather | WorkerCall::ScopeBroadcast,
+            ) => 3,
             _ => 2,
         }
     }
@@ -162,6 +173,18 @@ fn broadcast<R: Wait>(
     Ok(spawned(answer, desk, Name::Installed))
 }
 
+// Broadcasts a job from outside whose pieces count their runs, and waits for them.
+fn gather<R: Wait>(
+    rt: &R,
+    alloc: Global,
+    pool: &ThreadPool<Work>,
+    desk: &Arc<Desk>,
+) -> Result<Outcome, Refusal> {
+    let job = Work::new(Name::Installed, desk, Deed::Number(7))?;
+    let answer = pool.broadcast(rt, alloc, job);
+    Ok(gathered(answer, desk, Name::Installed))
+}
+
 // Makes a call and, where it is refused, the same again.
 fn twice<F: Fn() -> Result<Outcome, Refusal>>(call: F) -> Result<Report, Refusal>
     requires { F.IsAlwaysCallable call }
@@ -218,8 +241,10 @@ fn make_on_pool<R: Threads + Wait + Copy + Send + 'static>(
         PoolCall::Join => twice(|| join(rt, alloc, &pool, &desk)),
         PoolCall::Spawn => twice(|| spawn(rt, alloc, &pool, &desk)),
         PoolCall::Broadcast => twice(|| broadcast(rt, alloc, &pool, &desk)),
+        PoolCall::Gather => twice(|| gather(rt, alloc, &pool, &desk)),
         PoolCall::Scope => twice(|| pool_scope(rt, alloc, &pool, &desk)),
         PoolCall::InPlaceScope => twice(|| Ok(in_place_scope(rt, alloc, &pool, &desk))),
+        PoolCall::InPlaceBroadcast => twice(|| Ok(in_place_broadcast(rt, alloc, &pool, &desk))),
         PoolCall::OnWorker(call) => install_caller(rt, alloc, &pool, &desk, call),
     };
     pool.end_and_join(rt);

@@ -1,9 +1,9 @@
 //! The calls that a job makes on its worker, and what they give.
 ghost use Rattle.std.specs.Prelude.{◌≡◌, ℕ, ◌≤◌};
 
-use crate::in_scope::{scope, scope_fifo};
+use crate::in_scope::{scope, scope_broadcast, scope_fifo};
 use crate::outcome::{Outcome, Report};
-use crate::work::{Answer, Deed, Desk, Name, Work, joined, spawned};
+use crate::work::{Answer, Deed, Desk, Name, Work, gathered, joined, spawned};
 use rayon_core::latch::OwnLatch;
 use rayon_core::{CallError, Refusal, Waits, WorkerThread};
 use std::alloc::Global;
@@ -27,10 +27,14 @@ pub enum WorkerCall {
     SpawnFifo,
     /// `WorkerThread::spawn_broadcast`.
     Broadcast,
+    /// `WorkerThread::broadcast`, which waits.
+    Gather,
     /// `ScopeCalls::scope`, with two spawns.
     Scope,
     /// `ScopeCalls::scope_fifo`, likewise.
     ScopeFifo,
+    /// `ScopeCalls::scope`, with two broadcasts into it.
+    ScopeBroadcast,
     /// `WorkerThread::owner`.
     Owner,
     /// `WorkerThread::push`, of a second side that was taken before.
@@ -53,7 +57,6 @@ pub fn make_on_worker<R: Waits<Work>>(
     ensures id { w.new.id ≡ w.old.id }
     ensures level { w.new.levels ≡ w.old.levels }
     ensures units { w.new.units ≡ w.old.units }
-    ensures seat { w.new.seat ≡ w.old.seat }
     ensures shape { w.new.shape ≡ w.old.shape }
 {
     if call == WorkerCall::Deep {
@@ -79,7 +82,6 @@ fn make_once<R: Waits<Work>>(
     ensures id { w.new.id ≡ w.old.id }
     ensures level { w.new.levels ≡ w.old.levels }
     ensures units { w.new.units ≡ w.old.units }
-    ensures seat { w.new.seat ≡ w.old.seat }
     ensures shape { w.new.shape ≡ w.old.shape }
 {
     match call {
@@ -92,8 +94,10 @@ fn make_once<R: Waits<Work>>(
         WorkerCall::Spawn => spawn(rt, alloc, w, desk, false),
         WorkerCall::SpawnFifo => spawn(rt, alloc, w, desk, true),
         WorkerCall::Broadcast => broadcast(rt, alloc, w, desk),
+        WorkerCall::Gather => gather(rt, alloc, w, desk),
         WorkerCall::Scope => Ok(scope(rt, alloc, w, desk)),
         WorkerCall::ScopeFifo => Ok(scope_fifo(rt, alloc, w, desk)),
+        WorkerCall::ScopeBroadcast => Ok(scope_broadcast(rt, alloc, w, desk)),
         WorkerCall::Deep => Ok(Outcome::Unlike),
     }
 }
@@ -110,7 +114,6 @@ fn join<R: Waits<Work>>(
     ensures id { w.new.id ≡ w.old.id }
     ensures level { w.new.levels ≡ w.old.levels }
     ensures units { w.new.units ≡ w.old.units }
-    ensures seat { w.new.seat ≡ w.old.seat }
     ensures shape { w.new.shape ≡ w.old.shape }
 {
     let first = Work::new(Name::First, desk, deed)?;
@@ -130,7 +133,6 @@ fn install<R: Waits<Work>>(
     ensures id { w.new.id ≡ w.old.id }
     ensures level { w.new.levels ≡ w.old.levels }
     ensures units { w.new.units ≡ w.old.units }
-    ensures seat { w.new.seat ≡ w.old.seat }
     ensures shape { w.new.shape ≡ w.old.shape }
 {
     let job = Work::new(Name::First, desk, Deed::Number(7))?;
@@ -156,7 +158,6 @@ fn spawn<R: Waits<Work>>(
     ensures id { w.new.id ≡ w.old.id }
     ensures level { w.new.levels ≡ w.old.levels }
     ensures units { w.new.units ≡ w.old.units }
-    ensures seat { w.new.seat ≡ w.old.seat }
     ensures shape { w.new.shape ≡ w.old.shape }
 {
     let job = Work::new(Name::First, desk, Deed::Number(7))?;
@@ -178,12 +179,29 @@ fn broadcast<R: Waits<Work>>(
     ensures id { w.new.id ≡ w.old.id }
     ensures level { w.new.levels ≡ w.old.levels }
     ensures units { w.new.units ≡ w.old.units }
-    ensures seat { w.new.seat ≡ w.old.seat }
     ensures shape { w.new.shape ≡ w.old.shape }
 {
     let job = Work::new(Name::First, desk, Deed::Number(7))?;
     let answer = w.spawn_broadcast(rt, alloc, job);
     Ok(spawned(answer, desk, Name::First))
+}
+
+// Broadcasts a job whose pieces count their runs, and waits for them.
+fn gather<R: Waits<Work>>(
+    rt: &R,
+    alloc: Global,
+    w: &mut WorkerThread<Work>,
+    desk: &Arc<Desk>,
+) -> Result<Outcome, Refusal>
+    requires { w.old.levels ≤ R.levels rt.now }
+    ensures id { w.new.id ≡ w.old.id }
+    ensures level { w.new.levels ≡ w.old.levels }
+    ensures units { w.new.units ≡ w.old.units }
+    ensures shape { w.new.shape ≡ w.old.shape }
+{
+    let job = Work::new(Name::First, desk, Deed::Number(7))?;
+    let answer = w.broadcast(rt, alloc, job);
+    Ok(gathered(answer, desk, Name::First))
 }
 
 // Makes a latch, and waits until it is set, which it is.
@@ -197,7 +215,6 @@ fn wait_until<R: Waits<Work>>(
     ensures id { w.new.id ≡ w.old.id }
     ensures level { w.new.levels ≡ w.old.levels }
     ensures units { w.new.units ≡ w.old.units }
-    ensures seat { w.new.seat ≡ w.old.seat }
     ensures shape { w.new.shape ≡ w.old.shape }
 {
     let (latch, mut own) = match OwnLatch::new(alloc) {
@@ -235,7 +252,6 @@ pub fn push_again<R: Wait>(rt: &R, w: &mut WorkerThread<Work>) -> Result<Answer,
     ensures id { w.new.id ≡ w.old.id }
     ensures level { w.new.levels ≡ w.old.levels }
     ensures units { w.new.units ≡ w.old.units }
-    ensures seat { w.new.seat ≡ w.old.seat }
     ensures shape { w.new.shape ≡ w.old.shape }
 {
     let Some(task) = w.take_local_job(rt) else {
@@ -259,7 +275,6 @@ pub fn push_in_order<R: Wait>(
     ensures id { w.new.id ≡ w.old.id }
     ensures level { w.new.levels ≡ w.old.levels }
     ensures units { w.new.units ≡ w.old.units }
-    ensures seat { w.new.seat ≡ w.old.seat }
     ensures shape { w.new.shape ≡ w.old.shape }
 {
     let Some(task) = w.take_local_job(rt) else {
@@ -287,7 +302,6 @@ pub fn deep<R: Waits<Work>>(
     ensures id { w.new.id ≡ w.old.id }
     ensures level { w.new.levels ≡ w.old.levels }
     ensures units { w.new.units ≡ w.old.units }
-    ensures seat { w.new.seat ≡ w.old.seat }
     ensures shape { w.new.shape ≡ w.old.shape }
 {
     let report = join_below(rt, alloc, w, desk, depth)?;
@@ -318,7 +332,6 @@ fn join_below<R: Waits<Work>>(
     ensures id { w.new.id ≡ w.old.id }
     ensures level { w.new.levels ≡ w.old.levels }
     ensures units { w.new.units ≡ w.old.units }
-    ensures seat { w.new.seat ≡ w.old.seat }
     ensures shape { w.new.shape ≡ w.old.shape }
 {
     let Some(below) = depth.checked_sub(1) else {

@@ -103,6 +103,16 @@ pub enum Answer {
     Reported,
 }
 
+impl Answer {
+    // Whether it is this number.
+    fn is_number(self, number: u64) -> bool {
+        match self {
+            Answer::Number(given) => given == number,
+            Answer::Reported => false,
+        }
+    }
+}
+
 impl Work {
     /// A job with this name that shares this with the others. Refused `NoRoom`.
     pub fn new(name: Name, desk: &Arc<Desk>, deed: Deed) -> Result<Work, Refusal> {
@@ -152,6 +162,35 @@ pub fn spawned(answer: Result<(), (Refusal, Work)>, desk: &Arc<Desk>, name: Name
             same_jobs: job.is(name, Deed::Number(7)),
             runs: desk.runs(),
         },
+    }
+}
+
+/// What a broadcast that waits gave of a job with this name: how many pieces have run, where as many have answered,
+/// each the index of its worker, in this order.
+pub fn gathered(
+    answer: Result<Vec<Answer>, CallError<Refusal, Work>>,
+    desk: &Arc<Desk>,
+    name: Name,
+) -> Outcome {
+    match answer {
+        Ok(answers) => {
+            for (index, answer) in answers.iter().enumerate() {
+                if !answer.is_number(index as u64) {
+                    return Outcome::Unlike;
+                }
+            }
+            if answers.len() as u64 == desk.runs() {
+                Outcome::Answered(desk.runs())
+            } else {
+                Outcome::Unlike
+            }
+        }
+        Err(CallError::Refused(refusal, job)) => Outcome::Refused {
+            refusal,
+            same_jobs: job.is(name, Deed::Number(7)),
+            runs: desk.runs(),
+        },
+        _ => Outcome::Unlike,
     }
 }
 
@@ -208,9 +247,9 @@ impl Job for Work {
         _rt: &R,
         _alloc: Global,
         _w: &mut WorkerThread<Self>,
-        _ctx: &mut BroadcastContext<Self>,
+        ctx: &mut BroadcastContext<Self>,
     ) -> Result<Answer, Refusal> {
         self.desk.count();
-        Ok(Answer::Number(1))
+        Ok(Answer::Number(ctx.index() as u64))
     }
 }

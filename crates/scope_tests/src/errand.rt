@@ -3,7 +3,8 @@ ghost use Rattle.rayon_core.specs.Worker.{SameWorker};
 ghost use Rattle.std.specs.Prelude.{◌≤◌};
 
 use rayon_core::{
-    BroadcastContext, Done, FnContext, Job, JobKind, NoHandler, ScopeCalls, Waits, WorkerThread,
+    BroadcastContext, Done, FnContext, Job, JobKind, NoHandler, Scope, ScopeCalls, Waits,
+    WorkerThread,
 };
 use std::alloc::Global;
 use std::sync::atomic::{AtomicU64, Ordering};
@@ -31,6 +32,24 @@ pub enum Deed {
     /// Opens a scope on its worker, spawns the first twig of so many into it, and answers the sum of what they all
     /// answered.
     Tree(u64),
+    /// Broadcasts itself into its own scope, and answers the number of its first piece. Each piece does this.
+    Cast(Part),
+    /// Opens a scope on its worker, spawns a job into it that answers this number, and then broadcasts one. Answers
+    /// this number where each output has its own place, and its pieces have the numbers from 1 on.
+    Numbers(u64),
+}
+
+/// What a piece does, before it answers its index.
+#[derive(Drop)]
+pub enum Part {
+    /// Nothing.
+    Count,
+    /// Waits at the gate until all others have come.
+    Meet(Arc<Barrier>),
+    /// Faults with its index, where that is at least the first number and below the second.
+    Fault(usize, usize),
+    /// Broadcasts a job whose pieces count into the scope, and answers 0.
+    Again,
 }
 
 /// A job: its name, which is its tag, the count of all runs, and what it does.
@@ -119,8 +138,91 @@ fn tree<R: Waits<Errand>>(
     }
 }
 
-// The sum of these outputs.
-fn sum_of(outputs: &[Done<Errand>]) -> u64 {
+// Broadcasts the job into a scope by the worker. Answers the number of its first piece.
+fn cast<R: Wait>(
+    rt: &R,
+    alloc: Global,
+    w: &mut WorkerThread<Errand>,
+    scope: Option<&mut Scope<Errand>>,
+    job: Errand,
+) -> Result<u64, Trouble>
+    ensures same { SameWorker w.old w.new }
+{
+    let Some(scope) = scope else {
+        return Err(Trouble::Lost);
+    };
+    match scope.spawn_broadcast(rt, alloc, w, job) {
+        Ok(first) => Ok(first),
+        Err(_) => Err(Trouble::Lost),
+    }
+}
+
+// Opens a scope on the worker, spawns a job into it that answers this number, and then broadcasts one.
+fn numbers<R: Waits<Errand>>(
+    rt: &R,
+    alloc: Global,
+    w: &mut WorkerThread<Errand>,
+    runs: &Arc<AtomicU64>,
+    number: u64,
+) -> Result<u64, Trouble>
+    requires levels { w.old.levels ≤ R.levels rt.now }
+    ensures same { SameWorker w.old w.new }
+{
+    let workers = w.current_num_threads();
+    let ended = w.scope(rt, alloc, |w, scope| {
+        spawn_and_cast(rt, alloc, w, scope, runs, number)
+    });
+    let Ok(ended) = ended else {
+        return Err(Trouble::Lost);
+    };
+    if ended.value == 1 && are_numbered(&ended.outputs, number, workers) {
+        Ok(number)
+    } else {
+        Err(Trouble::Lost)
+    }
+}
+
+// Spawns a job into a scope that answers this number, and then broadcasts one. Answers the number of its first piece.
+fn spawn_and_cast<R: Wait>(
+    rt: &R,
+    alloc: Global,
+    w: &mut WorkerThread<Errand>,
+    scope: &mut Scope<Errand>,
+    runs: &Arc<AtomicU64>,
+    number: u64,
+) -> Result<u64, Trouble>
+    ensures same { SameWorker w.old w.new }
+{
+    let one = Errand::new(1, runs, Deed::End(Ok(number)))?;
+    let many = Errand::new(2, runs, Deed::Cast(Part::Count))?;
+    if scope.spawn(rt, w, one).is_err() {
+        return Err(Trouble::Lost);
+    }
+    match scope.spawn_broadcast(rt, alloc, w, many) {
+        Ok(first) => Ok(first),
+        Err(_) => Err(Trouble::Lost),
+    }
+}
+
+/// Whether these are the output of a whole job, which is this number, and then those of the pieces of so many workers,
+/// by their indices.
+pub fn are_numbered(outputs: &[Done<Errand>], number: u64, workers: usize) -> bool {
+    let mut wanted = (1, None, number);
+    let mut found = 0_usize;
+    for done in outputs {
+        if (*done.tag(), done.place(), done.output().copied())
+            != (wanted.0, wanted.1, Some(wanted.2))
+        {
+            return false;
+        }
+        wanted = (2, Some((found, workers)), found as u64);
+        found = found.saturating_add(1);
+    }
+    found == workers.saturating_add(1)
+}
+
+/// The sum of these outputs.
+pub fn sum_of(outputs: &[Done<Errand>]) -> u64 {
     let mut sum = 0u64;
     for done in outputs {
         sum = sum.saturating_add(done.output().copied().unwrap_or(0));
@@ -136,13 +238,17 @@ impl Job for Errand {
         w: &mut WorkerThread<Self>,
         ctx: &mut FnContext<Self>,
     ) -> Result<u64, Trouble> {
+        self.runs.fetch_add(1, Ordering::SeqCst);
+        if matches!(&self.deed, Deed::Cast(_)) {
+            return cast(rt, alloc, w, ctx.scope(), self);
+        }
         let Errand {
             name: _,
             runs,
             deed,
         } = self;
-        runs.fetch_add(1, Ordering::SeqCst);
         match deed {
+            Deed::Cast(_) => Err(Trouble::Lost),
             Deed::End(ending) => ending.map_err(Trouble::Number),
             Deed::Meet(gate) => {
                 gate.wait(rt);
@@ -155,16 +261,35 @@ impl Job for Errand {
                 Ok(number)
             }
             Deed::Tree(most) => tree(rt, alloc, w, &runs, most),
+            Deed::Numbers(number) => numbers(rt, alloc, w, &runs, number),
         }
     }
 
     fn run_on<R: Waits<Self>>(
         &self,
-        _rt: &R,
-        _alloc: Global,
-        _w: &mut WorkerThread<Self>,
-        _ctx: &mut BroadcastContext<Self>,
+        rt: &R,
+        alloc: Global,
+        w: &mut WorkerThread<Self>,
+        ctx: &mut BroadcastContext<Self>,
     ) -> Result<u64, Trouble> {
-        Err(Trouble::Lost)
+        self.runs.fetch_add(1, Ordering::SeqCst);
+        let index = ctx.index();
+        match &self.deed {
+            Deed::Cast(Part::Count) => Ok(index as u64),
+            Deed::Cast(Part::Meet(gate)) => {
+                gate.wait(rt);
+                Ok(index as u64)
+            }
+            Deed::Cast(Part::Fault(from, to)) if *from <= index && index < *to => {
+                Err(Trouble::Number(index as u64))
+            }
+            Deed::Cast(Part::Fault(_, _)) => Ok(index as u64),
+            Deed::Cast(Part::Again) => {
+                let job = Errand::new(self.name, &self.runs, Deed::Cast(Part::Count))?;
+                cast(rt, alloc, w, ctx.scope(), job)?;
+                Ok(0)
+            }
+            _ => Err(Trouble::Lost),
+        }
     }
 }

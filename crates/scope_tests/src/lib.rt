@@ -2,6 +2,8 @@
 #![tactic(auto)]
 
 #[cfg(test)]
+mod casts;
+#[cfg(test)]
 mod errand;
 #[cfg(test)]
 mod tests;

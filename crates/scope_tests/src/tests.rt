@@ -13,7 +13,7 @@ use std::thread::{JoinHandle, Threads};
 use std::{mem, thread};
 
 // A pool of so many workers.
-fn pool_of<R: Threads + Wait + Abort + Copy + Send + 'static>(
+pub(crate) fn pool_of<R: Threads + Wait + Abort + Copy + Send + 'static>(
     rt: &R,
     alloc: Global,
     workers: usize,
@@ -22,7 +22,7 @@ fn pool_of<R: Threads + Wait + Abort + Copy + Send + 'static>(
 }
 
 // The same, beside the other pools of these numbers.
-fn pool_with<R: Threads + Wait + Abort + Copy + Send + 'static>(
+pub(crate) fn pool_with<R: Threads + Wait + Abort + Copy + Send + 'static>(
     rt: &R,
     alloc: Global,
     workers: usize,
@@ -33,12 +33,12 @@ fn pool_with<R: Threads + Wait + Abort + Copy + Send + 'static>(
 }
 
 // A count of runs, at 0.
-fn no_runs<R: Abort>(rt: &R, alloc: Global) -> Arc<AtomicU64> {
+pub(crate) fn no_runs<R: Abort>(rt: &R, alloc: Global) -> Arc<AtomicU64> {
     Arc::new(alloc, AtomicU64::new(0)).expect(rt, "room")
 }
 
 // Spawns a job of this name that does this into a scope from outside, and answers its number.
-fn inject<R: Wait>(
+pub(crate) fn inject<R: Wait>(
     rt: &R,
     alloc: Global,
     pool: &PoolRef<Errand>,
@@ -74,7 +74,7 @@ fn digits<B: Drop>(
 
 // What a scope gave.
 #[derive(Clone, Copy, Debug, PartialEq, Eq)]
-enum Outcome {
+pub(crate) enum Outcome {
     // What its body answered, and how many outputs there are.
     Ended(u64, usize),
     // A fault.
@@ -88,7 +88,7 @@ enum Outcome {
 }
 
 // What a scope gave.
-fn outcome_of<B: Drop>(
+pub(crate) fn outcome_of<B: Drop>(
     ended: Result<Ended<u64, Vec<Done<Errand>>>, CallError<Trouble, B>>,
 ) -> Outcome {
     match ended {

@@ -7,7 +7,7 @@ use std::test::*;
 use std::thread;
 use std::thread::{Threads, join};
 
-// How often each thread of a test adds one.
+// How often each thread of a test adds one in each way.
 const TURNS: u64 = 500;
 
 #[test]
@@ -18,6 +18,25 @@ fn a_value_is_given_and_put_back(rt: HostRuntime) -> Result<(), Fail> {
     assert_eq!(rt; lock.leave(&rt, 3), Err(3));
     assert_eq!(rt; lock.hold(&rt), 2);
     assert_eq!(rt; lock.leave(&rt, 4), Ok(()));
+    Ok(())
+}
+
+// Adds one to the value, in one step. The value that it found.
+fn adds_in_a_step<R: Wait>(rt: &R, lock: &HeldLock<u64>) -> u64 {
+    lock.with(rt, |value| {
+        let found = *value;
+        *value = found.wrapping_add(1);
+        found
+    })
+}
+
+#[test]
+fn a_step_is_done_to_the_value(rt: HostRuntime) -> Result<(), Fail> {
+    let lock = HeldLock::new(5);
+    assert_eq!(rt; adds_in_a_step(&rt, &lock), 5);
+    assert_eq!(rt; adds_in_a_step(&rt, &lock), 6);
+    assert_eq!(rt; lock.leave(&rt, 9), Err(9));
+    assert_eq!(rt; lock.hold(&rt), 7);
     Ok(())
 }
 
@@ -44,7 +63,14 @@ fn waits_and_adds<R: Wait>(rt: &R, lock: &HeldLock<u64>, waiters: &AtomicU64) ->
     found
 }
 
-// Two threads wait for a lock that is held, until it is left with this value. What they found.
+// Says that it is about to wait, and adds one in one step. The value that it found.
+fn waits_and_steps<R: Wait>(rt: &R, lock: &HeldLock<u64>, waiters: &AtomicU64) -> u64 {
+    waiters.fetch_add(1, Ordering::SeqCst);
+    adds_in_a_step(rt, lock)
+}
+
+// Two threads wait for a lock that is held, one to hold it and one for a step, until it is left with this value. What
+// they found.
 fn two_wait<R: Threads + Wait + Sync>(rt: &R, lock: &HeldLock<u64>, value: u64) -> (u64, u64) {
     let waiters = AtomicU64::new(0);
     let waiters = &waiters;
@@ -58,7 +84,7 @@ fn two_wait<R: Threads + Wait + Sync>(rt: &R, lock: &HeldLock<u64>, value: u64) 
             join(
                 rt,
                 move || waits_and_adds(rt, lock, waiters),
-                move || waits_and_adds(rt, lock, waiters),
+                move || waits_and_steps(rt, lock, waiters),
             )
         },
     );
@@ -78,7 +104,8 @@ fn each_that_waits_goes_on_once_it_is_left(rt: HostRuntime) -> Result<(), Fail> 
     Ok(())
 }
 
-// Holds the lock so often, adds one each time, and leaves it after other threads ran. How often it was left in vain.
+// Holds the lock so often, adds one each time, and leaves it after other threads ran; and adds one in a step each time.
+// How often it was left in vain.
 fn adds<R: Wait>(rt: &R, lock: &HeldLock<u64>) -> u64 {
     let mut failed: u64 = 0;
     for _ in 0..TURNS {
@@ -87,6 +114,7 @@ fn adds<R: Wait>(rt: &R, lock: &HeldLock<u64>) -> u64 {
         if lock.leave(rt, count.wrapping_add(1)).is_err() {
             failed = failed.saturating_add(1);
         }
+        adds_in_a_step(rt, lock);
     }
     failed
 }
@@ -102,6 +130,6 @@ fn four_threads_hold_it_one_after_the_other(rt: HostRuntime) -> Result<(), Fail>
     let (lock, rt) = (&lock, &rt);
     let done = join(rt, move || two_add(rt, lock), move || two_add(rt, lock));
     assert!(rt; done.0 && done.1);
-    assert_eq!(rt; lock.hold(rt), 4 * TURNS);
+    assert_eq!(rt; lock.hold(rt), 8 * TURNS);
     Ok(())
 }

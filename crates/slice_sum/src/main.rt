@@ -6,9 +6,10 @@ ghost use Rattle.std.proofs.Common.{rules};
 ghost use Rattle.std.specs.Prelude.{◌≡◌, ℕ, ◌+◌, IfOk, sum, take};
 
 use rayon_core::{
-    BroadcastContext, CallError, EndAfter, FnContext, Ids, Job, JobKind, NoHandler, Refusal,
-    ThreadPoolBuilder, Waits, WorkerThread,
+    BroadcastContext, CallError, EndAfter, FnContext, Ids, Job, JobKind, NoHandler, Refusal, Waits,
+    WorkerThread,
 };
+use rayon_global::builder_of_environment;
 use std::alloc::Global;
 
 static NUMBERS: [u64; 12] = [3, 1, 4, 1, 5, 9, 2, 6, 5, 3, 5, 8];
@@ -83,7 +84,8 @@ impl Job for Total {
 }
 
 fn main(rt: HostRuntime) -> anyhow::Result<()> {
-    let pool = ThreadPoolBuilder::new().build(&rt, rt.alloc(), &Ids::new())?;
+    let builder = builder_of_environment(&rt, rt.alloc())?;
+    let pool = builder.build(&rt, rt.alloc(), &Ids::new())?;
     match pool.end_after(&rt, |pool| pool.install(&rt, rt.alloc(), Total(0, 12))) {
         Ok(total) => Ok(println!(rt; "{total}")?),
         Err(error) => Ok(println!(rt; "no total: {error:?}")?),

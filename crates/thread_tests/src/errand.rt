@@ -1,5 +1,4 @@
 //! The jobs of the tests, and what they leave behind.
-ghost use Rattle.std.specs.Prelude.{◌≡◌};
 
 use rayon_core::{BroadcastContext, FnContext, Job, JobKind, PoolHandler, Waits, WorkerThread};
 use std::alloc::Global;

@@ -1,7 +1,8 @@
 //! The tests.
 use crate::errand::{Errand, Marks, Teller};
 use rayon_core::{
-    Configuration, Ids, ThreadBuilder, ThreadPool, ThreadPoolBuildError, ThreadPoolBuilder,
+    Configuration, CustomSpawn, Ids, ThreadBuilder, ThreadPool, ThreadPoolBuildError,
+    ThreadPoolBuilder, ThreadSpawn,
 };
 use std::alloc::Global;
 use std::io::{Error, ErrorKind};
@@ -102,50 +103,81 @@ fn tell<R: Wait>(
     Ok(())
 }
 
-// A spawn handler is told each worker's index once, the name that was given for it, and the stack that was asked for.
+// Nothing was told yet.
+const NOTHING: Told = Told {
+    indices: 0,
+    named: 0,
+    nameless: 0,
+    small: 0,
+};
+
+// A spawn handler is told each worker's index once, and of no name and no stack where none was asked for.
+#[test]
+fn thread_builders_say_nothing_that_was_not_set(rt: HostRuntime) -> Result<(), Fail> {
+    let alloc = rt.alloc();
+    let told = Arc::new(alloc, Mutex::new(NOTHING)).expect(&rt, "room");
+    let theirs = Arc::try_clone(&told).expect(&rt, "room");
+    let handles = no_handles(&rt, alloc);
+    let kept = Arc::try_clone(&handles).expect(&rt, "room");
+    let builder = ThreadPoolBuilder::<Errand>::new()
+        .num_threads(3)
+        .spawn_handler(move |thread: ThreadBuilder<Errand>| {
+            tell(&rt, alloc, &theirs, &thread)?;
+            start(&rt, alloc, &kept, thread)
+        });
+    let pool = builder.build(&rt, alloc, &Ids::new()).expect(&rt, "a pool");
+    pool.end(&rt);
+    assert_eq!(rt; join_all(&rt, alloc, &handles), 3);
+    let expected = Told {
+        indices: 111,
+        named: 0,
+        nameless: 3,
+        small: 0,
+    };
+    assert_eq!(rt; *told.lock(&rt), expected);
+    Ok(())
+}
+
+// A pool of three workers with names and small stacks, whose threads this handler starts.
+fn named_pool<F, R: Threads + Wait + Copy + Send + 'static>(
+    rt: &R,
+    alloc: Global,
+    spawn: F,
+) -> Result<ThreadPool<Errand>, ThreadPoolBuildError>
+where
+    F: Drop,
+    CustomSpawn<F>: ThreadSpawn<ThreadBuilder<Errand>>,
+    requires { bound-4.can_spawn spawn }
+{
+    ThreadPoolBuilder::<Errand>::new()
+        .num_threads(3)
+        .stack_size(262_144)
+        .thread_name(move |index| format!(in alloc; "worker {index}"))
+        .spawn_handler(spawn)
+        .build(rt, alloc, &Ids::new())
+}
+
+// It is told the name that was given for each worker's index, and the stack that was asked for.
 #[test]
 fn thread_builders_say_what_was_set(rt: HostRuntime) -> Result<(), Fail> {
     let alloc = rt.alloc();
-    let nothing = Told {
-        indices: 0,
-        named: 0,
+    let told = Arc::new(alloc, Mutex::new(NOTHING)).expect(&rt, "room");
+    let theirs = Arc::try_clone(&told).expect(&rt, "room");
+    let handles = no_handles(&rt, alloc);
+    let kept = Arc::try_clone(&handles).expect(&rt, "room");
+    let pool = named_pool(&rt, alloc, move |thread: ThreadBuilder<Errand>| {
+        tell(&rt, alloc, &theirs, &thread)?;
+        start(&rt, alloc, &kept, thread)
+    });
+    pool.expect(&rt, "a pool").end(&rt);
+    assert_eq!(rt; join_all(&rt, alloc, &handles), 3);
+    let expected = Told {
+        indices: 111,
+        named: 3,
         nameless: 0,
-        small: 0,
+        small: 3,
     };
-    for (size, named, nameless, small) in [(None, 0, 3, 0), (Some(262_144), 3, 0, 3)] {
-        let told = Arc::new(alloc, Mutex::new(nothing)).expect(&rt, "room");
-        let theirs = Arc::try_clone(&told).expect(&rt, "room");
-        let handles = no_handles(&rt, alloc);
-        let kept = Arc::try_clone(&handles).expect(&rt, "room");
-        let builder = ThreadPoolBuilder::<Errand>::new()
-            .num_threads(3)
-            .spawn_handler(move |thread: ThreadBuilder<Errand>| {
-                tell(&rt, alloc, &theirs, &thread)?;
-                start(&rt, alloc, &kept, thread)
-            });
-        let ids = Ids::new();
-        let pool = match size {
-            Some(size) => {
-                let builder = builder.stack_size(size);
-                let builder = builder.thread_name(move |index| format!(in alloc; "worker {index}"));
-                builder.build(&rt, alloc, &ids)
-            }
-            None => builder.build(&rt, alloc, &ids),
-        };
-        pool.expect(&rt, "a pool").end(&rt);
-        assert_eq!(rt; join_all(&rt, alloc, &handles), 3);
-        let found = *told.lock(&rt);
-        let indices = 111;
-        assert_eq!(rt;
-            found,
-            Told {
-                indices,
-                named,
-                nameless,
-                small
-            }
-        );
-    }
+    assert_eq!(rt; *told.lock(&rt), expected);
     Ok(())
 }
 
@@ -182,6 +214,33 @@ fn a_failed_start_ends_what_was_started(rt: HostRuntime) -> Result<(), Fail> {
         let marked = (1_u64 << last).saturating_sub(1);
         assert_eq!(rt; (marks.started(), marks.exited()), (marked, marked));
     }
+    Ok(())
+}
+
+// Where the second of three names has a NUL byte there is no pool, and the one thread that was started has ended.
+#[test]
+fn a_name_with_a_nul_byte_is_refused(rt: HostRuntime) -> Result<(), Fail> {
+    let alloc = rt.alloc();
+    let marks = Marks::new(alloc).expect(&rt, "room");
+    let builder = ThreadPoolBuilder::<Errand>::new()
+        .num_threads(3)
+        .start_handler(Teller::new(&marks).expect(&rt, "room"))
+        .exit_handler(Teller::new(&marks).expect(&rt, "room"))
+        .thread_name(move |index| {
+            let end = if index == 1 { "\0" } else { "" };
+            format!(in alloc; "worker {index}{end}")
+        });
+    match builder.build(&rt, alloc, &Ids::new()) {
+        Ok(pool) => {
+            pool.end(&rt);
+            panic!(rt; "a pool");
+        }
+        Err(ThreadPoolBuildError::IOError(error)) => {
+            assert_eq!(rt; error.kind(), ErrorKind::InvalidInput);
+        }
+        Err(_) => panic!(rt; "another cause"),
+    }
+    assert_eq!(rt; (marks.started(), marks.exited()), (1, 1));
     Ok(())
 }
 

@@ -7,5 +7,4 @@ invariant-loop g l =
     × (l.w.levels ≡ l.initial.w.levels)
     × (l.w.id ≡ l.initial.w.id)
     × (l.w.units ≡ l.initial.w.units)
-    × (l.w.seat ≡ l.initial.w.seat)
     × (l.w.shape ≡ l.initial.w.shape)

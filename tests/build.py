@@ -10,11 +10,12 @@ and the libraries below. What is made there goes to out/ of the crate in the tre
 As many are built at once as there are processors, and memory for 2.5 GB each; RT_JOBS=N sets
 another number. The one with the most lines in a chain above it is first. What a crate's file
 out/rlib/sources, or out/NAME.sources of a program, says to be made of these very sources by this
-toolchain is left as it is.
+toolchain is left as it is. So are the libraries that tests/gate takes over from `rt ci`.
 """
 import contextlib
 import fcntl
 import hashlib
+import importlib.util
 import os
 import re
 import resource
@@ -73,6 +74,28 @@ def held(folder, how):
         os.close(handle)
 
 
+def texts_of(folder):
+    """The files of a crate's src/, specs/ and proofs/, each with what it holds, in order."""
+    found = {}
+    for part in sorted(PARTS):
+        for at, folders, names in os.walk(f"{folder}/{part}"):
+            folders.sort()
+            for it in sorted(names):
+                with open(f"{at}/{it}", "rb") as file:
+                    found[os.path.relpath(f"{at}/{it}", folder)] = file.read()
+    return found
+
+
+def sum_of(toolchain, line, below, texts):
+    """The checksum of all that a crate is made of: its line, the sums of those below, its texts."""
+    return hashlib.sha256(repr((toolchain, line, below, [*texts.items()])).encode()).hexdigest()
+
+
+def version():
+    """What the toolchain says of itself."""
+    return subprocess.run(["rt", "version"], stdout=subprocess.PIPE).stdout
+
+
 class Crate:
     """A crate of the tree, its sources as they were at the start, and its room."""
 
@@ -89,16 +112,10 @@ class Crate:
         self.is_program = os.path.isfile(f"{self.sources}/src/main.rt")
         self.product = name if self.is_program else "rlib"
         self.record = f"{name}.sources" if self.is_program else "rlib/sources"
-        self.is_built, self.process, self.size = False, None, 0
-        digest = hashlib.sha256(repr((toolchain, lines[name], [it.sum for it in below])).encode())
-        for at, folders, names in os.walk(self.sources):
-            folders.sort()
-            for it in sorted(names):
-                with open(f"{at}/{it}", "rb") as file:
-                    text = file.read()
-                self.size += text.count(b"\n")
-                digest.update(repr((os.path.relpath(f"{at}/{it}", self.sources), text)).encode())
-        self.sum = digest.hexdigest()
+        self.is_built, self.process = False, None
+        texts = texts_of(self.sources)
+        self.size = sum(it.count(b"\n") for it in texts.values())
+        self.sum = sum_of(toolchain, lines[name], [it.sum for it in below], texts)
 
     def take(self, started):
         """Takes over what the tree has, if it was made of these sources, for those above."""
@@ -257,7 +274,7 @@ def build(top, names):
             raise NotBuilt(f"{it} is no crate of crates.txt")
     if not shutil.which("rt"):
         raise NotBuilt("the toolchain's command rt is not found")
-    toolchain = subprocess.run(["rt", "version"], stdout=subprocess.PIPE).stdout
+    toolchain = version()
     with held(f"{top}/crates", fcntl.LOCK_EX):
         work = tempfile.mkdtemp(prefix="crates-")
         try:
@@ -277,6 +294,41 @@ def build(top, names):
                     break
                 time.sleep(0.1)
     return missing
+
+
+def stamps_of(top):
+    """The stamps by which rt knows the libraries of the tree that are built. It writes none of what
+    `rt ci` builds. There are none where the kit's module for them is not as this one reads it."""
+    try:
+        path = f"{os.path.dirname(os.path.realpath(shutil.which('rt')))}/rtlib.py"
+        found = importlib.util.spec_from_file_location("rtlib", path)
+        kit = importlib.util.module_from_spec(found)
+        found.loader.exec_module(kit)
+        return {it.name: it.stamp() for it in kit.crates_below(top) if os.path.isdir(it.rlib)}
+    except (Exception, SystemExit) as why:
+        print(f"what the gate built is proved once more: {why!r}", file=sys.stderr)
+        return {}
+
+
+def take_libraries(top, room):
+    """Takes over the libraries that `rt ci` proved in a copy of the tree, each marked with the sources
+    in that copy: where the tree's are others, neither rt nor build() takes it for built."""
+    below, lines, toolchain, sums = crates_of_list(room), lines_of_list(room), version(), {}
+    for name, stamp in stamps_of(room).items():
+        for it in [*below[name], name]:
+            if it not in sums:
+                own = [sums[dep] for dep in below[it]]
+                sums[it] = sum_of(toolchain, lines[it], own, texts_of(f"{room}/crates/{it}"))
+        kept = f"{top}/crates/{name}/out"
+        with held(os.path.dirname(kept), fcntl.LOCK_EX):
+            removed(f"{kept}/rlib.new")
+            made = f"{room}/crates/{name}/out/rlib/{name}.rlib"
+            shutil.copytree(made, f"{kept}/rlib.new/{name}.rlib")
+            for mark, text in (("stamp", stamp), ("sources", sums[name])):
+                with open(f"{kept}/rlib.new/{mark}", "w", encoding="utf-8") as file:
+                    file.write(text)
+            removed(f"{kept}/rlib")
+            os.rename(f"{kept}/rlib.new", f"{kept}/rlib")
 
 
 def build_libraries(top, names):

@@ -157,8 +157,8 @@ fn cast<R: Wait>(
     }
 }
 
-// Broadcasts the job by the worker, and waits for it. Answers the last digits of what its pieces answered, and keeps how
-// many shares of the tally there are then.
+// Broadcasts the job by the worker, and waits for it. Answers the last digits of what its pieces answered, and keeps
+// how many shares of the tally there are then.
 fn ask<R: Waits<Errand>>(
     rt: &R,
     alloc: Global,
@@ -349,8 +349,8 @@ fn spawn_mark<R: Wait>(
     }
 }
 
-// The run of a job that spawns so many: whether it waits, it broadcasts one that counts, and answers how many its worker
-// has counted then.
+// The run of a job that spawns so many: whether it waits, it broadcasts one that counts, and answers how many its
+// worker has counted then.
 fn spawn_and_ask<R: Waits<Errand>>(
     rt: &R,
     alloc: Global,

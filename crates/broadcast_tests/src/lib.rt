@@ -1,5 +1,5 @@
-//! Tests of broadcasts: that each worker runs its own piece of each of them once, whoever broadcasts, and that who waits
-//! for one is answered what its pieces answered, once all have ended.
+//! Tests of broadcasts: that each worker runs its own piece of each of them once, whoever broadcasts, and that who
+//! waits for one is answered what its pieces answered, once all have ended.
 #![tactic(auto)]
 
 #[cfg(test)]

@@ -317,8 +317,8 @@ fn the_own_deque_comes_before_pieces(rt: HostRuntime) -> Result<(), Fail> {
     Ok(())
 }
 
-// Each piece broadcasts again and waits, and so on, so many levels deep: of n workers each runs 1 + n + n * n pieces and
-// so on, from outside, and as many where a worker begins that is one level deeper.
+// Each piece broadcasts again and waits, and so on, so many levels deep: of n workers each runs 1 + n + n * n pieces
+// and so on, from outside, and as many where a worker begins that is one level deeper.
 #[test]
 fn pieces_broadcast_again_and_wait(rt: HostRuntime) -> Result<(), Fail> {
     let alloc = rt.alloc();

@@ -191,8 +191,8 @@ fn broadcasts_are_answered_on_both_sides(rt: HostRuntime) -> Result<(), Fail> {
     Ok(())
 }
 
-// On both sides the pieces of two broadcasts into a scope have numbers in a row and their places, and the fault of a piece
-// is the scope's.
+// On both sides the pieces of two broadcasts into a scope have numbers in a row and their places, and the fault of a
+// piece is the scope's.
 #[test]
 fn scopes_take_broadcasts_on_both_sides(rt: HostRuntime) -> Result<(), Fail> {
     let alloc = rt.alloc();

@@ -38,13 +38,13 @@ pub enum Deed {
     Fill(Endings),
     /// Has such a job for the body of a scope, and answers the scope's digits.
     OpenByJob(Endings),
-    /// Broadcasts such a job and waits for it, and answers the digits of what its pieces answered: each the index of its
-    /// worker and one, but the piece of this index faults, if there is one.
+    /// Broadcasts such a job and waits for it, and answers the digits of what its pieces answered: each the index of
+    /// its worker and one, but the piece of this index faults, if there is one.
     Gather(Option<usize>),
     /// Broadcasts such a job and waits for nothing. Its pieces come to this gate.
     Cast(Arc<Barrier>),
-    /// Opens a scope, broadcasts two jobs of the kind `Gather` into it, of which the second's piece of this index faults,
-    /// if there is one, and answers the digits of the first one's pieces.
+    /// Opens a scope, broadcasts two jobs of the kind `Gather` into it, of which the second's piece of this index
+    /// faults, if there is one, and answers the digits of the first one's pieces.
     CastInto(Option<usize>),
 }
 

@@ -11,8 +11,8 @@ use std::alloc::Global;
 use std::marker::Model;
 use std::mem;
 
-/// The results of a scope's jobs, by number, and whose fault came first. Or those of a broadcast's pieces, by index, and
-/// the fault of the lowest index that has one (`of_pieces`).
+/// The results of a scope's jobs, by number, and whose fault came first. Or those of a broadcast's pieces, by index,
+/// and the fault of the lowest index that has one (`of_pieces`).
 ///
 /// Only the opening of slots takes memory: it also makes the room for the outputs. To a contract it is a list of slots,
 /// and the one whose fault was the first.

@@ -72,8 +72,8 @@ impl<'p, J: JobKind, R: Wait> BroadcastsInto<J, R> for Outside<'p, J> {
 
 /// Broadcasts a job into a scope: each worker of the scope's pool runs a piece of it, by `Job::run_on`. The scope waits
 /// for the pieces, and answers their outputs at numbers in a row, by the workers' indices, of which this answers the
-/// first. Refused `Full`, `NoRoom`, `Ended`, with the very job back and no piece queued; `Ended` also where the scope is
-/// of another pool. rayon-core finds out by itself where its caller stands, and answers no number.
+/// first. Refused `Full`, `NoRoom`, `Ended`, with the very job back and no piece queued; `Ended` also where the scope
+/// is of another pool. rayon-core finds out by itself where its caller stands, and answers no number.
 pub fn spawn_broadcast_into<J: JobKind, R, C: BroadcastsInto<J, R>>(
     rt: &R,
     alloc: Global,

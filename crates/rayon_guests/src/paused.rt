@@ -5,8 +5,8 @@ use rayon_jobs::JobKind;
 use rayon_tasks::Ticket;
 use std::marker::Model;
 
-/// The call of an outside caller between two stretches of its acts, with its unit of the terminate count: its ticket, its
-/// seat of that count, and its trace. It has no `Drop`: the call has to go on. Contracts see all of it.
+/// The call of an outside caller between two stretches of its acts, with its unit of the terminate count: its ticket,
+/// its seat of that count, and its trace. It has no `Drop`: the call has to go on. Contracts see all of it.
 pub struct Paused<J: JobKind> {
     pub(crate) call: Option<Ticket<J>>,
     pub(crate) count: CountSeat,

@@ -1,5 +1,5 @@
-//! The broadcasts of an outside caller into a scope: one piece for each worker, all queued at once, each with a share of
-//! the scope's count and a number of the scope's book. The scope is reached by the ticket in hand.
+//! The broadcasts of an outside caller into a scope: one piece for each worker, all queued at once, each with a share
+//! of the scope's count and a number of the scope's book. The scope is reached by the ticket in hand.
 ghost use Rattle.std.specs.Prelude.{◌≡◌, ◌⊎◌, ◌+◌, ◌<◌, ◌≤◌, ◌^◌, ◌++◌, [], None, Some, IsSome, false, IfErr, IfOk, MatchResult, length, vec_capacity};
 ghost use Rattle.rayon_books.specs.Books.{opened};
 ghost use Rattle.rayon_machine_places.specs.Places.{call_all, ends_count};
@@ -318,8 +318,8 @@ impl<'a, J: JobKind> Guest<'a, J> {
         }
     }
 
-    // Gives the shares of the pieces back, which were not queued, and where they were the last of the scope's count sets
-    // the latch of the scope's call.
+    // Gives the shares of the pieces back, which were not queued, and where they were the last of the scope's count
+    // sets the latch of the scope's call.
     fn give_shares_back<R: Wait>(&mut self, rt: &R, entry: Entry, cast: Pieces)
         requires idle { (self.old.load ≡ None) × (self.old.holds ≡ false) }
         requires scope { IsScope (scope_in self.old.call) entry.call }

@@ -62,8 +62,8 @@ impl Model for CountLatch {
 }
 
 impl CountLatch {
-    /// A latch whose count is `count`, its first seat, and, where a worker waits, its core latch with that worker's seat,
-    /// for it to wait on. Of a count of 0 the latch is set from the start. Refused `NoRoom` for want of memory.
+    /// A latch whose count is `count`, its first seat, and, where a worker waits, its core latch with that worker's
+    /// seat, for it to wait on. Of a count of 0 the latch is set from the start. Refused `NoRoom` for want of memory.
     pub fn with_count(
         alloc: Global,
         count: u64,
@@ -150,8 +150,8 @@ impl CountLatch {
         }
     }
 
-    /// One fewer, and none fewer at 0, as the first step of [`CountLatch::set`]. True exactly if that made it 0: then the
-    /// latch inside is still to be set.
+    /// One fewer, and none fewer at 0, as the first step of [`CountLatch::set`]. True exactly if that made it 0: then
+    /// the latch inside is still to be set.
     pub fn lower<R: Wait>(&self, rt: &R, seat: &mut CountSeat) -> bool
         requires { seat.old.table_id ≡ self.now.count.table }
         ensures table { seat.new.table_id ≡ seat.old.table_id }
@@ -163,8 +163,8 @@ impl CountLatch {
         self.counter.set(rt, seat)
     }
 
-    /// Sets the latch inside, and wakes the worker who waits where it slept on it, or the outside caller. That the count
-    /// is 0 is the caller's condition, as the seat has seen it: so no latch is set early.
+    /// Sets the latch inside, and wakes the worker who waits where it slept on it, or the outside caller. That the
+    /// count is 0 is the caller's condition, as the seat has seen it: so no latch is set early.
     pub fn settle<R: Wait>(&self, rt: &R, seat: &CountSeat) -> Settled
         requires table { seat.now.table_id ≡ self.now.count.table }
         requires ended { (teller seat.now).seen ≡ true }
@@ -181,8 +181,8 @@ impl CountLatch {
         }
     }
 
-    /// The outside caller's wait: blocks until the count is 0, and has then seen it so. That the latch is no worker's is
-    /// the caller's condition; a worker waits on its core latch, and works meanwhile.
+    /// The outside caller's wait: blocks until the count is 0, and has then seen it so. That the latch is no worker's
+    /// is the caller's condition; a worker waits on its core latch, and works meanwhile.
     pub fn wait<R: Wait>(&self, rt: &R, seat: &mut CountSeat)
         requires table { seat.old.table_id ≡ self.now.count.table }
         requires owner { self.now.owner ≡ None }

@@ -12,7 +12,8 @@ use std::sync::{Condvar, Mutex, MutexGuard, Wait};
 // steps as a rule. Each pause is twice as long as the one before, all together about as long as to sleep and be woken.
 const TRIES: u32 = 7;
 
-/// What stands under a held lock: the value, but while somebody holds it. To a contract it is that value, if it is there.
+/// What stands under a held lock: the value, but while somebody holds it. To a contract it is that value, if it is
+/// there.
 #[derive(Drop)]
 pub struct HeldLockState<T> {
     value: Option<T>,
@@ -63,11 +64,11 @@ impl<T: Drop> HeldLockState<T> {
     }
 }
 
-/// A lock that is held from one act to the next: who holds it has the value, and nobody else can have it meanwhile. What
-/// each step does to what stands under it is the contract of `HeldLockState`'s call.
+/// A lock that is held from one act to the next: who holds it has the value, and nobody else can have it meanwhile.
+/// What each step does to what stands under it is the contract of `HeldLockState`'s call.
 ///
-/// It stands where a guard of a `Mutex` can't: one that lives longer than a call would have to be kept in the value of who
-/// holds it.
+/// It stands where a guard of a `Mutex` can't: one that lives longer than a call would have to be kept in the value of
+/// who holds it.
 #[derive(Drop)]
 pub struct HeldLock<T> {
     state: Mutex<HeldLockState<T>>,
@@ -83,7 +84,8 @@ impl<T: Drop> HeldLock<T> {
         }
     }
 
-    /// Holds the lock once nobody else does, and gives its value. A thread that has tried for a few microseconds sleeps.
+    /// Holds the lock once nobody else does, and gives its value. A thread that has tried for a few microseconds
+    /// sleeps.
     pub fn hold<R: Wait>(&self, rt: &R) -> T {
         match self.lock_left(rt).take() {
             Some(value) => value,
@@ -120,8 +122,8 @@ impl<T: Drop> HeldLock<T> {
             .wait_while(rt, self.state.lock(rt), |state| state.is_held())
     }
 
-    /// Leaves the lock with this value, and wakes all that wait for it. Where nobody holds the lock the value comes back,
-    /// and nothing is changed.
+    /// Leaves the lock with this value, and wakes all that wait for it. Where nobody holds the lock the value comes
+    /// back, and nothing is changed.
     pub fn leave<R: Wait>(&self, rt: &R, value: T) -> Result<(), T>
         ensures { IfErr result (λ back. back ≡ value) }
     {

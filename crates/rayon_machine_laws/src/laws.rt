@@ -24,8 +24,8 @@ ghost use Rattle.rayon_machine_laws.specs.Stays.{StaysLaw};
 /// detached jobs: the tokens of a list that are queued or in a hand are no more than the jobs that stand in it.
 /// Each piece of a broadcast is bound to one worker (`bound`): it stands in no list but that worker's broadcast list,
 /// and once it is taken with no party but that worker, in its hand or under its run. No step changes which worker that
-/// is, nor the pool that a job's call was made at, nor what the end of its run sets going; and a job's number of its book
-/// stays, unless it is taken back, and once it is filled it stays so (`fixed`).
+/// is, nor the pool that a job's call was made at, nor what the end of its run sets going; and a job's number of its
+/// book stays, unless it is taken back, and once it is filled it stays so (`fixed`).
 /// A job whose run ends is over as its run ended, and comes to be over only so; and a step adds one to the number of
 /// its runs only where a party comes to stand at its run (`ends`). So a job that has run has stood at its run.
 /// A job that is over stays over, with the same ending; a spent token stays spent, and what was handed back stays so
@@ -54,9 +54,9 @@ pub fn law_once()
 /// A broadcast whose latch is set keeps no fault exactly where each piece has ended without one, and else that of the
 /// lowest piece that ended with one; and its Take, which takes its cell, sees a fault exactly where one is kept
 /// (`gathered`).
-/// Each latch, a call's and each worker's terminate latch, is set once at most, and by one party: whose next act sets it
-/// finds it unset, and is the only party whose next act does (`once`); and in each step of each run a latch that is set
-/// stays set, and comes to be set by such an act alone, which leaves it set (`sets`).
+/// Each latch, a call's and each worker's terminate latch, is set once at most, and by one party: whose next act sets
+/// it finds it unset, and is the only party whose next act does (`once`); and in each step of each run a latch that is
+/// set stays set, and comes to be set by such an act alone, which leaves it set (`sets`).
 /// It does not say that a latch is ever set.
 pub fn law_latch()
     ensures latched { Always IsLatched }
@@ -79,8 +79,8 @@ pub fn law_scope()
 /// In every world of every run each sleeping worker is inactive, and each worker that is about to block itself or is
 /// blocked is counted as sleeping, and holds its own sleep lock unless it is blocked.
 /// A worker is inactive exactly where it stands in its search, from the act by which it becomes inactive to the one by
-/// which it leaves; it counts as sleeping exactly from its TryAdd to the act by which it blocks or takes itself out, and
-/// while it is blocked; and it is blocked only where it is to take its own lock again (`seated`).
+/// which it leaves; it counts as sleeping exactly from its TryAdd to the act by which it blocks or takes itself out,
+/// and while it is blocked; and it is blocked only where it is to take its own lock again (`seated`).
 /// A worker stops only once its terminate latch is set, and leaves its search without a task only once the latch that
 /// it waits for is set (`stops`).
 /// A latch that is not set is sleepy exactly where its worker is about to take its own lock and to fall asleep for it,

@@ -22,8 +22,8 @@ pub fn looks_at_counts(act: Act) -> bool
 
 impl Touched {
     /// What a party's act sees, and the numbers after it, where this task stands at the end of the queue that the act
-    /// takes from or looks at. It is `NotEnabled` where the act is not, and `NoRoom` where a number would pass 2^64 - 1.
-    /// It is the running world's own part, and not for users.
+    /// takes from or looks at. It is `NotEnabled` where the act is not, and `NoRoom` where a number would pass
+    /// 2^64 - 1. It is the running world's own part, and not for users.
     pub fn outcome(
         self,
         act: Act,

@@ -22,8 +22,8 @@ ghost use Rattle.rayon_machine_orders.specs.Values.{ValueLaw};
 /// while it is queued, in one of these lists, in a hand or running, and last by the Lower that follows its run, or the
 /// one act by which a refused broadcast gives back the shares of all its pieces. A token has no share. So no share is
 /// lost, and none stays in the count that nobody keeps. The pieces of a broadcast that waits have shares of its own
-/// count, from the act that queues them on, and the number that stands for the whole has the pool's, which the call that
-/// waits keeps. A spawn in order into a scope, and a piece of a scope, have shares of the scope's count.
+/// count, from the act that queues them on, and the number that stands for the whole has the pool's, which the call
+/// that waits keeps. A spawn in order into a scope, and a piece of a scope, have shares of the scope's count.
 /// The share that a scope's body has of the scope's count is kept exactly once too, by the party that opened the scope,
 /// from the scope's event to its Lower; but once a refused scope has handed its body back nobody is to give that share
 /// back. Where a piece of a broadcast that waits is queued, in a hand, running or over, no share waits in its call's

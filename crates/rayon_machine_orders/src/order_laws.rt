@@ -9,19 +9,19 @@ ghost use Rattle.rayon_machine_orders.specs.Queue.{QueueLaw};
 /// In a pool of one worker the jobs of the worker's own deque begin, and the tokens in it are redeemed, in the order in
 /// which a token list hands them out, from what stood in the deque on: what is added stands last, and the last comes
 /// next, or the first in a pool that is oldest first. Beside it stand the worker's FIFO lists, from what stood in them
-/// on: a token that is redeemed begins the first job of its list. That holds of every stretch of every run, whatever the
-/// worker and other parties do in it, and at its end the list has what stands in the deque, and at most one job or token
-/// more, which the worker has taken and neither begun nor redeemed; the FIFO lists are the worker's.
+/// on: a token that is redeemed begins the first job of its list. That holds of every stretch of every run, whatever
+/// the worker and other parties do in it, and at its end the list has what stands in the deque, and at most one job or
+/// token more, which the worker has taken and neither begun nor redeemed; the FIFO lists are the worker's.
 /// Where the stretch begins between two runs of the worker, and the worker makes no call in it but spawns that are not
 /// in order, refused or not, and redeems no token, its jobs begin in the order of a walk of the trees of spawns: in
 /// preorder with children reversed, or level by level in a pool that is oldest first. First come the trees under what
 /// stood in the deque, and then, one after the other, those of the jobs that came from elsewhere. Of a stretch that is
 /// cut off before the deque is empty this is the order in which jobs have begun, and then the order in which the deque
 /// would hand out what is left.
-/// Where the stretch begins between two runs, only tokens of one FIFO list of the worker stand in its deque, and it makes
-/// no call but spawns in order for that list, refused or not, its jobs begin level by level, whatever the order of the
-/// pool (`levels`): first the trees under what stood in the list, then those of the jobs that came from elsewhere; and
-/// what is left is what the list holds. The list may be that of detached jobs, or that of a scope.
+/// Where the stretch begins between two runs, only tokens of one FIFO list of the worker stand in its deque, and it
+/// makes no call but spawns in order for that list, refused or not, its jobs begin level by level, whatever the order
+/// of the pool (`levels`): first the trees under what stood in the list, then those of the jobs that came from
+/// elsewhere; and what is left is what the list holds. The list may be that of detached jobs, or that of a scope.
 /// Each worker's FIFO lists are queues, in every pool, whatever its order (`queue`): a job that is added stands last, a
 /// refused call takes the last back, each token that is redeemed begins the first, and no other step changes a list.
 /// Own deques, injectors and broadcast lists are queues too, in every pool (`lists`): a worker pushes onto its own

@@ -8,7 +8,8 @@ use std::marker::Model;
 /// Jobs in the order in which they came. For each of them a token lies in some queue, and who runs a token takes the
 /// first job.
 ///
-/// To a contract it is the list of its jobs. rayon-core's is a queue of many threads; this one is held by one at a time.
+/// To a contract it is the list of its jobs. rayon-core's is a queue of many threads; this one is held by one at a
+/// time.
 #[derive(Drop)]
 pub struct JobFifo<T> {
     jobs: VecDeque<T>,

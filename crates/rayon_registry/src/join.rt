@@ -357,7 +357,7 @@ pub trait Lends<J: JobKind> {
     /// The levels of the worker value.
     ghost height: { Self → ℕ };
 
-    /// The pool's number and the worker's index, and by what its acts are told: its pool's shape and its index there.
+    /// The pool's number, the worker's index, by which its acts are told too, and its pool's shape.
     ghost id: { Self → ℕ × ℕ × PoolShape };
 
     /// The units of the terminate count that the worker's calls hold.

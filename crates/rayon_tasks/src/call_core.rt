@@ -10,9 +10,9 @@ use rayon_words::Refusal;
 use std::alloc::Global;
 use std::marker::Model;
 
-/// What the body and the jobs of a scope share, or the pieces of a broadcast that waits: the count of those of them that
-/// have not ended, and the book of their results, which is held over several acts or changed by a step of one. Contracts
-/// see the number of the call, and its count.
+/// What the body and the jobs of a scope share, or the pieces of a broadcast that waits: the count of those of them
+/// that have not ended, and the book of their results, which is held over several acts or changed by a step of one.
+/// Contracts see the number of the call, and its count.
 #[derive(Drop)]
 pub struct CallCore<J: JobKind> {
     call: u64,

@@ -1,5 +1,5 @@
-//! Tests of the commands of `rcore`: what each command line answers, what replays print, and the names of refusals. They
-//! have a crate of their own, since a crate with tests is proved twice.
+//! Tests of the commands of `rcore`: what each command line answers, what replays print, and the names of refusals.
+//! They have a crate of their own, since a crate with tests is proved twice.
 #![tactic(auto)]
 
 #[cfg(test)]

@@ -31,8 +31,8 @@ fn pieces_have_numbers_in_a_row(rt: HostRuntime) -> Result<(), Fail> {
     Ok(())
 }
 
-// Broadcasts a job of this name, of which the pieces do this, into a scope from outside. Answers the number of its first
-// piece.
+// Broadcasts a job of this name, of which the pieces do this, into a scope from outside. Answers the number of its
+// first piece.
 fn inject_cast<R: Wait>(
     rt: &R,
     alloc: Global,
@@ -281,8 +281,8 @@ fn shares_and_strangers(rt: HostRuntime) -> Result<(), Fail> {
     Ok(())
 }
 
-// Has another thread broadcast a job whose pieces count into the scope, and waits for that thread. Answers the number of
-// the first piece.
+// Has another thread broadcast a job whose pieces count into the scope, and waits for that thread. Answers the number
+// of the first piece.
 fn cast_by_thread<R: Threads + Wait + Copy + Send + 'static>(
     rt: &R,
     alloc: Global,

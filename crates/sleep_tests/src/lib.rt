@@ -1,5 +1,5 @@
-//! Tests of the atomic words, of the sleep, of the latches and of the lock that is held from act to act. They have a crate
-//! of their own, since a crate with tests is proved twice.
+//! Tests of the atomic words, of the sleep, of the latches and of the lock that is held from act to act. They have a
+//! crate of their own, since a crate with tests is proved twice.
 #![tactic(auto)]
 
 #[cfg(test)]

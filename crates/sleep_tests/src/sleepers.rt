@@ -208,8 +208,8 @@ fn a_set_latch_keeps_its_owner_from_sleeping(rt: HostRuntime) -> Result<(), Fail
     Ok(())
 }
 
-// A worker sleeps, and another thread tells of a job and wakes it. Answers whether it was woken, and how many to wake the
-// other was told.
+// A worker sleeps, and another thread tells of a job and wakes it. Answers whether it was woken, and how many to wake
+// the other was told.
 fn wakes_by_news<R: Threads + Wait + Sync>(
     rt: &R,
     sleep: &Sleep,
@@ -353,8 +353,8 @@ fn one_of_two_sleepers_is_woken(rt: HostRuntime) -> Result<(), Fail> {
     Ok(())
 }
 
-// Worker 1 sleeps on its latch, and another thread sets it. Answers whether it was woken, and whether the latch was unset
-// before.
+// Worker 1 sleeps on its latch, and another thread sets it. Answers whether it was woken, and whether the latch was
+// unset before.
 fn sleeps_until_set<R: Threads + Wait + Sync>(
     rt: &R,
     sleep: &Sleep,

@@ -1,5 +1,5 @@
-//! A batch server in miniature: threads with names and small stacks, which are counted as they begin and end, and jobs for
-//! which nobody waits, whose faults are counted too.
+//! A batch server in miniature: threads with names and small stacks, which are counted as they begin and end, and jobs
+//! for which nobody waits, whose faults are counted too.
 ghost use Rattle.std.specs.Prelude.{◌≡◌, ◌+◌, IfOk};
 ghost use Rattle.std.proofs.Common.{rules};
 

@@ -310,11 +310,12 @@ def stamps_of(top):
         return {}
 
 
-def take_libraries(top, room):
-    """Takes over the libraries that `rt ci` proved in a copy of the tree, each marked with the sources
-    in that copy: where the tree's are others, neither rt nor build() takes it for built."""
+def take_libraries(top, room, names):
+    """Takes over those libraries of these names that `rt ci` proved in a copy of the tree, each marked
+    with the sources in that copy: where the tree's are others, neither rt nor build() takes it for built."""
     below, lines, toolchain, sums = crates_of_list(room), lines_of_list(room), version(), {}
-    for name, stamp in stamps_of(room).items():
+    stamps = stamps_of(room)
+    for name, stamp in [(it, stamps[it]) for it in stamps if it in names]:
         for it in [*below[name], name]:
             if it not in sums:
                 own = [sums[dep] for dep in below[it]]

@@ -15,6 +15,9 @@ use std::test::Fail;
 use std::thread;
 use std::thread::Threads;
 
+/// The text of the refusal where there is a global pool already.
+const ALREADY: &str = "The global thread pool has already been initialized.";
+
 // A builder for so many workers.
 fn workers(n: usize) -> ThreadPoolBuilder<Deed> {
     ThreadPoolBuilder::new().num_threads(n)
@@ -48,60 +51,55 @@ fn first_use_fills(rt: HostRuntime) -> Result<(), Fail> {
     Ok(())
 }
 
-// Each call outside of a run, and each within one.
+// Each call outside of a run, and each within one: on two workers, and on the one that the environment's first word asks
+// for.
 #[test]
 fn calls_are_answered_on_both_sides(rt: HostRuntime) -> Result<(), Fail> {
-    let (alloc, ids, global) = (rt.alloc(), Ids::new(), GlobalPool::new());
-    global.end_after(&rt, |global| {
-        let filled = global.filled(&rt, alloc, &ids, workers(2));
-        let mut outside = filled.expect(&rt, "a pool");
-        assert!(rt; current_thread_index(&outside).is_none());
-        let one = install(&rt, alloc, &mut outside, Deed::Twice(50));
-        assert_eq!(rt; once(one), Ok(100));
-        let two = join(&rt, alloc, &mut outside, Deed::Twice(7), Deed::Twice(40));
-        assert_eq!(rt; once(two), Ok((14, 80)));
-        let two = join_context(&rt, alloc, &mut outside, Deed::Twice(9), Deed::Twice(0));
-        assert_eq!(rt; once(two), Ok((18, 0)));
-        let index = once(install(&rt, alloc, &mut outside, Deed::Where));
-        assert!(rt; index.is_ok_and(|index| index < 2));
-        let workers = once(install(&rt, alloc, &mut outside, Deed::Workers));
-        assert_eq!(rt; (current_num_threads(&outside), workers), (2, Ok(2)));
-        let (ours, theirs) = latch(&rt, alloc);
-        assert!(rt; spawn(&rt, alloc, &mut outside, Deed::Set(theirs)).is_ok());
-        ours.wait(&rt);
-        let (ours, theirs) = latch(&rt, alloc);
-        assert!(rt; spawn_fifo(&rt, alloc, &mut outside, Deed::Set(theirs)).is_ok());
-        ours.wait(&rt);
-        let (ours, theirs) = latch(&rt, alloc);
-        assert_eq!(rt;
-            once(install(&rt, alloc, &mut outside, Deed::SpawnFifoSet(theirs))),
-            Ok(0)
-        );
-        ours.wait(&rt);
-        let (ours, theirs) = latch(&rt, alloc);
-        assert_eq!(rt;
-            once(install(&rt, alloc, &mut outside, Deed::SpawnSet(theirs))),
-            Ok(0)
-        );
-        ours.wait(&rt);
-        assert_eq!(rt; outside.take_fault(&rt), (None, 0));
-    });
+    let first_word = ThreadPoolBuilder::new().environment(Some("1"), Some("7"), 9);
+    answer_on_both_sides(&rt, rt.alloc(), workers(2), 2);
+    answer_on_both_sides(&rt, rt.alloc(), first_word, 1);
     Ok(())
 }
 
-// The first word of the environment says how many workers the pool has.
-#[test]
-fn first_word_of_one_gives_one_worker(rt: HostRuntime) -> Result<(), Fail> {
-    let (alloc, ids, global) = (rt.alloc(), Ids::new(), GlobalPool::new());
-    let builder = ThreadPoolBuilder::new().environment(Some("1"), Some("7"), 9);
-    let (workers, index) = global.end_after(&rt, |global| {
-        let filled = global.filled(&rt, alloc, &ids, builder);
-        let mut outside = filled.expect(&rt, "a pool");
-        let index = install(&rt, alloc, &mut outside, Deed::Where);
-        (outside.current_num_threads(), once(index))
+// Makes the calls of a global pool that this builder makes, which has so many workers.
+fn answer_on_both_sides<R: Threads + Wait + Abort + Copy + Send + 'static>(
+    rt: &R,
+    alloc: Global,
+    builder: ThreadPoolBuilder<Deed>,
+    workers: u64,
+) {
+    let (ids, global) = (Ids::new(), GlobalPool::new());
+    global.end_after(rt, |global| {
+        let filled = global.filled(rt, alloc, &ids, builder);
+        let mut outside = filled.expect(rt, "a pool");
+        assert!(rt; current_thread_index(&outside).is_none());
+        assert_eq!(rt; current_num_threads(&outside) as u64, workers);
+        let one = install(rt, alloc, &mut outside, Deed::Twice(50));
+        assert_eq!(rt; once(one), Ok(100));
+        let two = join(rt, alloc, &mut outside, Deed::Twice(7), Deed::Twice(40));
+        assert_eq!(rt; once(two), Ok((14, 80)));
+        let two = join_context(rt, alloc, &mut outside, Deed::Twice(9), Deed::Twice(0));
+        assert_eq!(rt; once(two), Ok((18, 0)));
+        let index = once(install(rt, alloc, &mut outside, Deed::Where));
+        assert!(rt; index.is_ok_and(|index| index < workers));
+        let found = once(install(rt, alloc, &mut outside, Deed::Workers));
+        assert_eq!(rt; found, Ok(workers));
+        let (ours, theirs) = latch(rt, alloc);
+        assert!(rt; spawn(rt, alloc, &mut outside, Deed::Set(theirs)).is_ok());
+        ours.wait(rt);
+        let (ours, theirs) = latch(rt, alloc);
+        assert!(rt; spawn_fifo(rt, alloc, &mut outside, Deed::Set(theirs)).is_ok());
+        ours.wait(rt);
+        let (ours, theirs) = latch(rt, alloc);
+        let fifo = install(rt, alloc, &mut outside, Deed::SpawnFifoSet(theirs));
+        assert_eq!(rt; once(fifo), Ok(0));
+        ours.wait(rt);
+        let (ours, theirs) = latch(rt, alloc);
+        let spawned = install(rt, alloc, &mut outside, Deed::SpawnSet(theirs));
+        assert_eq!(rt; once(spawned), Ok(0));
+        ours.wait(rt);
+        assert_eq!(rt; outside.take_fault(rt), (None, 0));
     });
-    assert_eq!(rt; (workers, index), (1, Ok(0)));
-    Ok(())
 }
 
 // What the environment says is some number of workers, and a pool of that builder has as many.
@@ -126,13 +124,10 @@ fn second_build_is_refused(rt: HostRuntime) -> Result<(), Fail> {
     let workers = global.end_after(&rt, |global| {
         let first = global.build_global(&rt, alloc, &ids, workers(2));
         assert!(rt; first.is_ok());
-        let second = global.build_global(&rt, alloc, &ids, workers(4));
-        assert!(rt;
-            matches!(
-                &second,
-                Err(ThreadPoolBuildError::GlobalPoolAlreadyInitialized)
-            )
-        );
+        match global.build_global(&rt, alloc, &ids, workers(4)) {
+            Ok(_outside) => panic!(rt; "a second pool"),
+            Err(error) => assert_eq!(rt; error.text(), Some(ALREADY)),
+        }
         let filled = global.filled(&rt, alloc, &ids, workers(5));
         filled.expect(&rt, "a pool").current_num_threads()
     });
@@ -156,12 +151,7 @@ fn second_initialization_is_refused(rt: HostRuntime) -> Result<(), Fail> {
         (made, again)
     });
     assert_eq!(rt; made, 3);
-    assert!(rt;
-        matches!(
-            &again,
-            Some(ThreadPoolBuildError::GlobalPoolAlreadyInitialized)
-        )
-    );
+    assert_eq!(rt; again.and_then(|error| error.text()), Some(ALREADY));
     Ok(())
 }
 
@@ -179,9 +169,12 @@ fn failed_fill_leaves_it_empty(rt: HostRuntime) -> Result<(), Fail> {
         let stack = workers(2).stack_size(usize::MAX);
         let filled = global.filled(&rt, alloc, &ids, stack);
         assert!(rt; matches!(&filled, Err(ThreadPoolBuildError::IOError(_))));
+        let stack = workers(2).stack_size(usize::MAX);
+        let built = global.build_global(&rt, alloc, &ids, stack);
+        assert!(rt; matches!(&built, Err(ThreadPoolBuildError::IOError(_))));
         assert!(rt; global.get().is_none());
-        let filled = global.filled(&rt, alloc, &ids, workers(3));
-        filled.expect(&rt, "a pool").current_num_threads()
+        let built = global.build_global(&rt, alloc, &ids, workers(3));
+        built.expect(&rt, "a pool").current_num_threads()
     });
     assert_eq!(rt; workers, 3);
     Ok(())

@@ -1,7 +1,7 @@
 //! The pool of a program that builds none itself.
 ghost use Rattle.rayon_core.specs.Environment.{workers_of};
 ghost use Rattle.rayon_core.specs.Texts.{fixed_text};
-ghost use Rattle.std.specs.Prelude.{◌≡◌, max, None, Ok, IfOk, IfErr};
+ghost use Rattle.std.specs.Prelude.{◌≡◌, ◌⊎◌, max, None, Ok, IfOk, IfErr};
 
 use crate::outside::Outside;
 use rayon_core::{
@@ -94,6 +94,7 @@ impl<J: JobKind> GlobalPool<J> {
         ensures workers { IfOk result (λ o. o.workers ≡ workers_of builder) }
         ensures depth { IfOk result (λ o. o.depth_limit ≡ max 1 builder.depth_limit) }
         ensures order { IfOk result (λ o. o.breadth_first ≡ builder.breadth_first) }
+        ensures cause { IfErr result (λ e. (e ≡ ThreadPoolBuildError.GlobalPoolAlreadyInitialized) ⊎ (fixed_text e ≡ None)) }
     {
         match self.fill(rt, alloc, ids, builder) {
             Ok(Filled::Made(pool)) => Ok(Outside::of(pool)),
@@ -178,6 +179,7 @@ where
     ensures workers { IfOk result (λ o. o.workers ≡ workers_of configuration) }
     ensures depth { IfOk result (λ o. o.depth_limit ≡ max 1 configuration.depth_limit) }
     ensures order { IfOk result (λ o. o.breadth_first ≡ configuration.breadth_first) }
+    ensures cause { IfErr result (λ e. (e ≡ ThreadPoolBuildError.GlobalPoolAlreadyInitialized) ⊎ (fixed_text e ≡ None)) }
 {
     global.build_global(rt, alloc, ids, configuration.into_builder())
 }

@@ -206,7 +206,7 @@ fn broadcasts_have_one_order(rt: HostRuntime) -> Result<(), Fail> {
 #[test]
 fn faults_of_pieces_are_told(rt: HostRuntime) -> Result<(), Fail> {
     let alloc = rt.alloc();
-    for workers in [1, 2, 4] {
+    for workers in [1, 2, 4, 7] {
         let tally = Tally::new(alloc, workers).expect(&rt, "room");
         let pool = pool_with(&rt, alloc, workers, Some(&tally));
         broadcast_often(&rt, alloc, &pool, &tally, 10, || Deed::Fault);
@@ -221,14 +221,16 @@ fn faults_of_pieces_are_told(rt: HostRuntime) -> Result<(), Fail> {
 #[test]
 fn faults_of_pieces_are_kept(rt: HostRuntime) -> Result<(), Fail> {
     let alloc = rt.alloc();
-    for (workers, faults) in [(1, 10), (2, 10), (4, 20)] {
+    for (workers, faults) in [(1, 10), (2, 10), (4, 20), (7, 40)] {
         let (pool, tally) = pool_of(&rt, alloc, workers);
         broadcast_often(&rt, alloc, &pool, &tally, 10, || Deed::Fault);
         let shared = pool.pool_ref().expect(&rt, "room");
         pool.end_and_join(&rt);
         let (first, count) = shared.take_fault(&rt);
-        let is_even = first == Some(Trouble::Piece(0)) || first == Some(Trouble::Piece(2));
-        assert!(rt; is_even, "{first:?}");
+        assert!(rt;
+            matches!(first, Some(Trouble::Piece(0 | 2 | 4 | 6))),
+            "{first:?}"
+        );
         assert_eq!(rt; (count, tally.pieces()), (faults, (10, 10, 0)));
         assert_eq!(rt; shared.take_fault(&rt), (None, 0));
     }

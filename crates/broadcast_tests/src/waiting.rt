@@ -407,14 +407,16 @@ fn ask_after_pauses<R: Wait + Abort>(
     }
 }
 
-// Broadcasts come to workers that search, that are about to sleep and that sleep, and all are answered.
+// Broadcasts come to workers that search, that are about to sleep and that sleep, and all are answered: after each pause
+// of up to 400 yields where there are seven workers.
 #[test]
 fn sleepers_hear_of_broadcasts(rt: HostRuntime) -> Result<(), Fail> {
     let alloc = rt.alloc();
     for (workers, outputs) in POOLS {
         let (pool, tally) = pool_of(&rt, alloc, workers);
-        ask_after_pauses(&rt, alloc, &pool, &tally, 120, outputs);
-        assert_eq!(rt; ended(&rt, pool, &tally), Left::each(120));
+        let times = if workers == 7 { 400 } else { 120 };
+        ask_after_pauses(&rt, alloc, &pool, &tally, times, outputs);
+        assert_eq!(rt; ended(&rt, pool, &tally), Left::each(times));
     }
     Ok(())
 }

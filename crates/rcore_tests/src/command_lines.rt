@@ -43,7 +43,7 @@ const SQUARES_TO_63: &str =
     3721 3844 3969\n";
 
 /// Command lines that are done, and what they print.
-const GOOD_LINES: [(&str, &str); 41] = [
+const GOOD_LINES: [(&str, &str); 43] = [
     ("fib 1 20", "6765\n"),
     ("fib 1 0", "0\n"),
     ("fib 1 1", "1\n"),
@@ -83,7 +83,9 @@ const GOOD_LINES: [(&str, &str); 41] = [
     ("threads 0 + 2 8", "2\n"),
     ("threads 0 00 5 3", "3\n"),
     ("threads 0 007 - 4", "7\n"),
+    ("threads 0 -1 6 2", "6\n"),
     ("threads +0 -1 6 2", "6\n"),
+    ("threads 65536 - - 4", "65535\n"),
     ("threads 3 9 9 9", "3\n"),
 ];
 

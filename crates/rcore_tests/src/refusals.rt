@@ -82,6 +82,7 @@ fn names_of_refused_pools_and_worlds(rt: HostRuntime) -> Result<(), Fail> {
     ] {
         prints(&rt, alloc, &error, name)?;
         prints(&rt, alloc, &build_error_name(&error), name)?;
+        assert_eq!(rt; format!(in alloc; "{error:?}")?.as_str(), name);
     }
     let global = ThreadPoolBuildError::GlobalPoolAlreadyInitialized;
     let current = ThreadPoolBuildError::CurrentThreadAlreadyInPool;
@@ -100,6 +101,7 @@ fn names_of_refused_pools_and_worlds(rt: HostRuntime) -> Result<(), Fail> {
         prints(&rt, alloc, &error, text)?;
         assert_eq!(rt; error.text(), Some(text));
         prints(&rt, alloc, &build_error_name(&error), name)?;
+        assert_eq!(rt; format!(in alloc; "{error:?}")?.as_str(), name);
     }
     let no_shape = "these pools are no shape of a world";
     prints(&rt, alloc, &StartError::BadStart, no_shape)?;

@@ -168,7 +168,7 @@ fn start_is_told_before_a_job(rt: HostRuntime) -> Result<(), Fail> {
     Ok(())
 }
 
-// A thread that the system cannot start tells of nothing.
+// A thread that the system cannot start tells of nothing, and what was made for its pool is let go.
 #[test]
 fn thread_that_is_not_started_tells_nothing(rt: HostRuntime) -> Result<(), Fail> {
     let alloc = rt.alloc();
@@ -186,5 +186,6 @@ fn thread_that_is_not_started_tells_nothing(rt: HostRuntime) -> Result<(), Fail>
         Err(error) => assert!(rt; matches!(&error, ThreadPoolBuildError::IOError(_))),
     }
     assert_eq!(rt; (marks.started(), marks.exited()), (0, 0));
+    assert_eq!(rt; Arc::strong_count(&marks), 1);
     Ok(())
 }

@@ -37,6 +37,22 @@ fn name_without_memory_ends_what_was_started(rt: HostRuntime) -> Result<(), Fail
     Ok(())
 }
 
+// A source whose last number was drawn makes no pool, and no thread was started for it.
+#[test]
+fn spent_numbers_start_no_thread(rt: HostRuntime) -> Result<(), Fail> {
+    let alloc = rt.alloc();
+    let marks = Marks::new(alloc).expect(&rt, "room");
+    match marking(&rt, 3, &marks).build(&rt, alloc, &Ids::spent()) {
+        Ok(pool) => {
+            pool.end_and_join(&rt);
+            panic!(rt; "a pool without a number");
+        }
+        Err(error) => assert!(rt; matches!(&error, ThreadPoolBuildError::NoIds)),
+    }
+    assert_eq!(rt; (marks.started(), marks.exited()), (0, 0));
+    Ok(())
+}
+
 // Whether a thread of this process has this name.
 fn has_thread(rt: &HostRuntime, name: &str) -> io::Result<bool> {
     let mut found = false;

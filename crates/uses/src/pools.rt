@@ -1,4 +1,5 @@
-//! How a pool is made for each feature, lent and ended.
+//! How a pool is made for each feature, with as many workers as the environment says, else as there are processors; and
+//! how it is lent and ended.
 ghost use Rattle.std.specs.Prelude.{◌≡◌, IfOk, false};
 
 use crate::closure::Ask;
@@ -10,19 +11,21 @@ use crate::sort::Sort;
 use crate::sum::Sum;
 use crate::threads::triples_of;
 use crate::tree::{Evaluate, Expression, Operator};
-use rayon_core::{CallError, EndAfter, Ids, ThreadPoolBuilder};
+use rayon_core::{CallError, EndAfter, Ids};
+use rayon_global::builder_of_environment;
 use std::alloc::Global;
+use std::env::Env;
 use std::rt::Runtime;
 use std::sync::Wait;
 use std::thread::Threads;
 
 // The sum of all numbers, and of each half.
-fn sums<R: Threads + Wait + Copy + Send + 'static>(
+fn sums<R: Threads + Wait + Env + Copy + Send + 'static>(
     rt: &R,
     alloc: Global,
     ids: &Ids,
 ) -> anyhow::Result<(u64, u64, u64)> {
-    let pool = ThreadPoolBuilder::new().build(rt, alloc, ids)?;
+    let pool = builder_of_environment(rt, alloc)?.build(rt, alloc, ids)?;
     pool.end_after(rt, |pool| {
         let whole = pool.install(rt, alloc, Sum { start: 0, end: 12 });
         let (left, right) = (Sum { start: 0, end: 6 }, Sum { start: 6, end: 12 });
@@ -34,21 +37,21 @@ fn sums<R: Threads + Wait + Copy + Send + 'static>(
 }
 
 // Numbers that are owned, in ascending order.
-fn ascending<R: Threads + Wait + Copy + Send + 'static>(
+fn ascending<R: Threads + Wait + Env + Copy + Send + 'static>(
     rt: &R,
     alloc: Global,
     ids: &Ids,
     numbers: Vec<u64>,
 ) -> anyhow::Result<Vec<u64>> {
     let numbers: &'static [u64] = numbers.leak();
-    let pool = ThreadPoolBuilder::new().build(rt, alloc, ids)?;
+    let pool = builder_of_environment(rt, alloc)?.build(rt, alloc, ids)?;
     let sorted = pool.install(rt, alloc, Sort(numbers));
     pool.end_and_join(rt);
     Ok(sorted.map_err(CallError::without_sides)?)
 }
 
 // The value of (2 + 3) * (4 + 5).
-fn product_of_sums<R: Threads + Wait + Copy + Send + 'static>(
+fn product_of_sums<R: Threads + Wait + Env + Copy + Send + 'static>(
     rt: &R,
     alloc: Global,
     ids: &Ids,
@@ -58,7 +61,7 @@ fn product_of_sums<R: Threads + Wait + Copy + Send + 'static>(
     let right = Expression::apply(alloc, Operator::Plus, number(4), number(5))?;
     let whole = Expression::apply(alloc, Operator::Times, left, right)?;
     let job = Evaluate::leaked(alloc, whole)?;
-    let pool = ThreadPoolBuilder::new()
+    let pool = builder_of_environment(rt, alloc)?
         .depth_limit(9)
         .build(rt, alloc, ids)?;
     let value = pool.end_after(rt, |pool| pool.install(rt, alloc, job));
@@ -66,12 +69,12 @@ fn product_of_sums<R: Threads + Wait + Copy + Send + 'static>(
 }
 
 // Three times 5 and three times 7, by two threads.
-fn triples<R: Threads + Wait + Copy + Send + 'static>(
+fn triples<R: Threads + Wait + Env + Copy + Send + 'static>(
     rt: &R,
     alloc: Global,
     ids: &Ids,
 ) -> anyhow::Result<Option<(u32, u32)>> {
-    let pool = ThreadPoolBuilder::new().build(rt, alloc, ids)?;
+    let pool = builder_of_environment(rt, alloc)?.build(rt, alloc, ids)?;
     pool.end_after(rt, |pool| {
         let shared = pool.pool_ref()?;
         Ok(triples_of(rt, alloc, &shared, 5, 7))
@@ -79,14 +82,14 @@ fn triples<R: Threads + Wait + Copy + Send + 'static>(
 }
 
 // Whether the first side of a join migrated, where it is a job and where it is a closure.
-fn first_sides<R: Threads + Wait + Copy + Send + 'static>(
+fn first_sides<R: Threads + Wait + Env + Copy + Send + 'static>(
     rt: &R,
     alloc: Global,
     ids: &Ids,
 ) -> anyhow::Result<(bool, bool)>
     ensures { IfOk result (λ p. (p.0 ≡ false) × (p.1 ≡ false)) }
 {
-    let pool = ThreadPoolBuilder::new().build(rt, alloc, ids)?;
+    let pool = builder_of_environment(rt, alloc)?.build(rt, alloc, ids)?;
     let job = pool.install(rt, alloc, Tell::FirstJob);
     let closure = pool.install(rt, alloc, Tell::Closure);
     pool.end_and_join(rt);
@@ -96,28 +99,28 @@ fn first_sides<R: Threads + Wait + Copy + Send + 'static>(
 }
 
 // Twice the sum of 2, 3 and 6.
-fn twice_the_sum<R: Threads + Wait + Copy + Send + 'static>(
+fn twice_the_sum<R: Threads + Wait + Env + Copy + Send + 'static>(
     rt: &R,
     alloc: Global,
     ids: &Ids,
 ) -> anyhow::Result<u32>
     ensures { IfOk result (λ v. v ≡ 22) }
 {
-    let pool = ThreadPoolBuilder::new().build(rt, alloc, ids)?;
+    let pool = builder_of_environment(rt, alloc)?.build(rt, alloc, ids)?;
     let sum = pool.install(rt, alloc, Ask::Doubles(2, 3, 6));
     pool.end_and_join(rt);
     Ok(sum.map_err(CallError::without_sides)?)
 }
 
 // Twice 8 by a scope from outside, and how many jobs that had.
-fn doubled_in_place<R: Threads + Wait + Copy + Send + 'static>(
+fn doubled_in_place<R: Threads + Wait + Env + Copy + Send + 'static>(
     rt: &R,
     alloc: Global,
     ids: &Ids,
 ) -> anyhow::Result<(u32, usize)>
     ensures { IfOk result (λ p. p.0 ≡ 16) }
 {
-    let pool = ThreadPoolBuilder::new().build(rt, alloc, ids)?;
+    let pool = builder_of_environment(rt, alloc)?.build(rt, alloc, ids)?;
     let doubled = double_in_place(rt, alloc, &pool, 8, 9);
     pool.end_and_join(rt);
     Ok(doubled?)

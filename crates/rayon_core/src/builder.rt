@@ -211,7 +211,8 @@ impl<J: JobKind, N, S> ThreadPoolBuilder<J, N, S> {
     /// Sets what the worker's thread is called, by its index: tools such as `ps` show the first 15 bytes. `build` asks
     /// for one name before it starts each thread, in the order of the indices. An error of the closure is want of
     /// memory, and makes `build` answer `NoRoom`; a name with a NUL byte makes it answer `IOError` of the kind
-    /// `InvalidInput`, where rayon-core panics. What was started by then is ended and joined.
+    /// `InvalidInput`, where rayon-core panics. What was started by then is told to end, and is joined where `build`
+    /// started it, not a spawn handler.
     pub fn thread_name<F: FnMut(usize) -> Result<String, AllocError>>(
         self,
         name: F,
@@ -333,7 +334,8 @@ impl<J: JobKind, N> ThreadPoolBuilder<J, N> {
 }
 
 impl<J: JobKind, N, F> ThreadPoolBuilder<J, N, CustomSpawn<F>> {
-    /// Makes the pool as `build` without a spawn handler does, but that each thread is started by the handler.
+    /// Makes the pool as `build` without a spawn handler does, but that each thread is started by the handler. What was
+    /// started before a refusal is told to end, and is joined by whoever has the threads' handles.
     pub fn build<R: Threads + Wait + Copy + Send + 'static>(
         self,
         rt: &R,

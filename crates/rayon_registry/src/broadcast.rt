@@ -35,8 +35,8 @@ impl<J: JobKind> WorkerThread<J> {
     /// Broadcasts a detached job: each worker of the pool runs a piece of it (`Job::run_on`), this one too, and this
     /// call waits for nothing. All pieces are queued at once, and each worker is called, so that none of them sleeps.
     /// Each piece has a unit of the terminate count, which the end of its run gives back. Nobody is answered an output;
-    /// a fault goes where that of a job goes which was spawned by `spawn`. The last piece lets the job go. Refused
-    /// `Full`, `NoRoom`, `Ended`, with the very job back and no piece queued.
+    /// a fault goes where that of a job goes which was spawned by `spawn`. Who has the job's last share lets it go, a
+    /// piece or the call. Refused `Full`, `NoRoom`, `Ended`, with the very job back and no piece queued.
     #[tactic(auto, unfolding(crate::specs::Pushes::pushed_by, crate::specs::Pushes::left_to, crate::specs::Pushes::takes_oldest, crate::specs::Pushes::units_of, crate::specs::Pushes::count_of, crate::specs::Pushes::shape_at, crate::specs::Pushes::index_of, crate::specs::Pushes::acts_of, crate::specs::Pushes::saw_set))]
     pub fn spawn_broadcast<R: Wait>(
         &mut self,
@@ -64,10 +64,10 @@ impl<J: JobKind> WorkerThread<J> {
     /// Broadcasts a job, and waits for it: each worker of the pool runs a piece of it (`Job::run_on`), this one too,
     /// which works meanwhile. All pieces are queued at once, and each worker is called, so that none of them sleeps.
     /// Answers what the pieces answered, by the indices of their workers; where pieces have faults, the one of the
-    /// lowest index instead. The last piece lets the job go. Refused `TooDeep` exactly where no level is left, `Full`,
-    /// `NoRoom`, `Ended`, with the very job back, the worker value unchanged and no piece queued. It is `Missing` where
-    /// a piece has left no result, and `Foreign` where a result is of another job or of another piece. rayon-core's
-    /// broadcast cannot be refused, and answers no faults: it resumes the panic.
+    /// lowest index instead. Who has the job's last share lets it go, a piece or the call. Refused `TooDeep` exactly
+    /// where no level is left, `Full`, `NoRoom`, `Ended`, with the very job back, the worker value unchanged and no
+    /// piece queued. It is `Missing` where a piece has left no result, and `Foreign` where a result is of another job
+    /// or of another piece. rayon-core's broadcast cannot be refused, and answers no faults: it resumes the panic.
     #[tactic(auto, unfolding(crate::specs::Pushes::units_of, crate::specs::Pushes::shape_at, crate::specs::Pushes::index_of, crate::specs::Pushes::acts_of))]
     pub fn broadcast<R: Waits<J>>(
         &mut self,
@@ -222,10 +222,10 @@ impl<J: JobKind> PoolRef<J> {
     /// Broadcasts a job to the pool, for a caller that is no worker, and blocks until each worker of the pool has run a
     /// piece of it (`Job::run_on`). All pieces are queued at once, and each worker is called, so that none of them
     /// sleeps. Answers what the pieces answered, by the indices of their workers; where pieces have faults, the one of
-    /// the lowest index instead. The last piece lets the job go. Refused `Full`, `NoRoom`, `Ended`, with the very job
-    /// back and no piece queued. It is `Missing` where a piece has left no result, and `Foreign` where a result is of
-    /// another job or of another piece. rayon-core's broadcast cannot be refused, and answers no faults: it resumes the
-    /// panic.
+    /// the lowest index instead. Who has the job's last share lets it go, a piece or the call. Refused `Full`,
+    /// `NoRoom`, `Ended`, with the very job back and no piece queued. It is `Missing` where a piece has left no result,
+    /// and `Foreign` where a result is of another job or of another piece. rayon-core's broadcast cannot be refused,
+    /// and answers no faults: it resumes the panic.
     pub fn broadcast<R: Wait>(
         &self,
         rt: &R,

@@ -147,8 +147,8 @@ impl<J: JobKind> PoolRef<J> {
     /// Broadcasts a detached job to the pool, for a caller that is no worker: each worker of the pool runs a piece of
     /// it (`Job::run_on`), and this call waits for nothing. All pieces are queued at once, and each worker is called,
     /// so that none of them sleeps. Each piece keeps the pool from ending until its run is over. Nobody is answered an
-    /// output; a fault goes where that of a job goes which was spawned by `spawn`. The last piece lets the job go.
-    /// Refused `Full`, `NoRoom`, `Ended`, with the very job back and no piece queued.
+    /// output; a fault goes where that of a job goes which was spawned by `spawn`. Who has the job's last share lets it
+    /// go, a piece or the call. Refused `Full`, `NoRoom`, `Ended`, with the very job back and no piece queued.
     pub fn spawn_broadcast<R: Wait>(
         &self,
         rt: &R,

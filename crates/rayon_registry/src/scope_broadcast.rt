@@ -27,9 +27,9 @@ impl<J: JobKind> Scope<J> {
     /// (`Job::run_on`), that one too, and the piece's `BroadcastContext` has the scope. All pieces are queued at once,
     /// and each worker is called, so that none of them sleeps. The pieces have numbers in a row, in the order of the
     /// workers' indices, and this answers the first one's. The scope waits for each piece, and answers its output at
-    /// its number, at the place of its worker's index and the number of workers. The last piece lets the job go.
-    /// Refused `Full`, `NoRoom`, `Ended`, with the very job back and no piece queued; `Ended` also to a worker of
-    /// another pool. rayon-core's is called by any thread, and cannot be refused.
+    /// its number, at the place of its worker's index and the number of workers. Who has the job's last share lets it
+    /// go, a piece or the call. Refused `Full`, `NoRoom`, `Ended`, with the very job back and no piece queued; `Ended`
+    /// also to a worker of another pool. rayon-core's is called by any thread, and cannot be refused.
     #[tactic(auto, unfolding(crate::specs::Pushes::pushed_by, crate::specs::Pushes::left_to, crate::specs::Pushes::takes_oldest, crate::specs::Pushes::units_of, crate::specs::Pushes::count_of, crate::specs::Pushes::shape_at, crate::specs::Pushes::index_of, crate::specs::Pushes::acts_of, crate::specs::Pushes::saw_set))]
     pub fn spawn_broadcast<R: Wait>(
         &mut self,

@@ -19,7 +19,7 @@ use Rattle.rayon_machine_places.specs.declared.shape.PoolShape.{PoolShape}
 use Rattle.rayon_machine_places.specs.Places.{fresh, latch_of, next_of}
 use Rattle.rayon_drive.specs.Traces.{Adds}
 use Rattle.rayon_performers.specs.declared.reclaimed.Reclaimed.{Reclaimed}
-use Rattle.rayon_performers.specs.declared.reclaimed.Reclaimed.TheVariants.{Own, Other, Answered}
+use Rattle.rayon_performers.specs.declared.reclaimed.Reclaimed.TheVariants.{Other, Answered}
 use Rattle.rayon_performers.specs.Hands.{Does, Hands}
 use Rattle.rayon_shared.specs.AtHand.{HasTicket, answer}
 use Rattle.rayon_performers.specs.Keeps.{does_at}
@@ -70,7 +70,6 @@ module _ {X G O F : Type 0} where
 
   -- what a join has found is in hand
   pub found_so : (q : Party) (s : Hands X G O F) (o : OpenCall) (r : Reclaimed) → At Anyhow q s (rejoins o r) → FoundSo o s r
-  found_so q s o Own a = a.2.0
   found_so q s o (Other t true) a = (a.2.0, a.2.1)
   found_so q s o (Other t false) a = (a.2.0, a.2.1)
   found_so q s o Answered a = tt

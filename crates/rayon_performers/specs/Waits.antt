@@ -11,9 +11,8 @@ use Rattle.rayon_machine_places.specs.declared.place.Move.{Move}
 use Rattle.rayon_machine_places.specs.declared.place.Move.TheVariants.{Stay, Enter, Back}
 use Rattle.rayon_machine_places.specs.Places.{fresh}
 use Rattle.rayon_atomics.specs.declared.views.Guard.{Guard}
-use Rattle.rayon_machine_places.specs.declared.place.Taken.TheVariants.{Plain}
 use Rattle.rayon_performers.specs.declared.reclaimed.Reclaimed.{Reclaimed}
-use Rattle.rayon_performers.specs.declared.reclaimed.Reclaimed.TheVariants.{Own, Other, Answered}
+use Rattle.rayon_performers.specs.declared.reclaimed.Reclaimed.TheVariants.{Other, Answered}
 use Rattle.rayon_performers.specs.Hands.{Hands, HasTask}
 use Rattle.rayon_shared.specs.AtHand.{HasTicket}
 
@@ -37,10 +36,9 @@ Rejoined o (Enter f p) = ((f ≡ at.JoinProbe o) ⊎ (f ≡ at.ProbeWorking (fre
 Rejoined o Back = Unit {0}
 Rejoined o m = ⊥
 
--- where a join that looked for its own second side goes on after it found this: that side's run begins, or another task's,
--- after which it waits for the thief's answer or looks again, or it has the result
+-- where a join that looked for its own second side in vain goes on after it found this: another task's run begins, after
+-- which it waits for the thief's answer or looks again, or it has the result
 abbrev pub rejoins : OpenCall → Reclaimed → Move
-rejoins o Own = Enter (at.SecondSide o) (at.BeginHere o.job)
 rejoins o (Other t waits) = Enter (if waits then at.ProbeWorking (fresh (Answer o (Some Fine))) else at.JoinProbe o) (at.BeginTask t)
 rejoins o Answered = Back
 
@@ -55,9 +53,8 @@ module _ {X G O F : Type 0} where
   abbrev pub SameSeat : Hands X G O F → Hands X G O F → Type 0
   SameSeat s t = (t.index ≡ s.index) × (t.shape ≡ s.shape)
 
-  -- the task that a join found is in hand, and where it is another's, the join's own call too
+  -- the other task that a join found is in hand, and the join's own call too
   abbrev pub FoundSo : OpenCall → Hands X G O F → Reclaimed → Type 0
-  FoundSo o s Own = HasTask s.task (Some (Plain o.job))
   FoundSo o s (Other t waits) = HasTask s.task (Some t) × HasTicket s.call (Some o.number)
   FoundSo o s Answered = Unit {0}
 

@@ -179,6 +179,29 @@ impl<J: JobKind> Bench<J> {
         }
     }
 
+    // Takes the newest task of the own deque, and hands it out: it is in hand by what the caller has.
+    #[inline(always)]
+    pub(crate) fn pop_out(&mut self) -> Option<Task<J>>
+        ensures does { MatchOption result
+            (Does acts.PopOwn saw.Missing self.old self.new)
+            (λ t. Does acts.PopOwn (saw.Task (taken_in t)) self.old (record self.new { task = Some t })) }
+        ensures adds { MatchOption result
+            (Adds acts.PopOwn saw.Missing self.old.trace self.new.trace)
+            (λ t. Adds acts.PopOwn (saw.Task (taken_in t)) self.old.trace self.new.trace) }
+    {
+        match self.own.pop() {
+            Some(task) => {
+                let taken = task.taken();
+                self.add(Act::PopOwn, Seen::Task(taken));
+                Some(task)
+            }
+            None => {
+                self.add(Act::PopOwn, Seen::Missing);
+                None
+            }
+        }
+    }
+
     /// Sees whether the own deque is empty.
     #[inline(always)]
     pub fn look_own(&mut self) -> bool

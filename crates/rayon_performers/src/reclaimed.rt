@@ -1,14 +1,12 @@
-//! What a join finds that looks for its own second side.
+//! What a join finds that looks for its own second side, where it does not find that.
 ghost use Rattle.std.specs.Prelude.{◌≡◌};
 ghost use Rattle.rayon_performers.specs.Waits.{Rejoined, rejoins};
 
 use rayon_machine_places::place::{Move, OpenCall, Place, Taken};
 
-/// What a join finds that looks for its own second side, and where it goes on from there.
+/// What a join finds that looks for its own second side in vain, and where it goes on from there.
 #[derive(Clone, Copy, Drop)]
 pub enum Reclaimed {
-    /// Its own second side, which is in hand and begins.
-    Own,
     /// Another task, which is in hand and begins.
     Other {
         /// The task.

@@ -3,7 +3,7 @@
 ghost use Rattle.std.specs.Prelude.{◌≡◌, ◌⊎◌, ◌↔◌, ◌+◌, ◌-◌, ◌==◌, ◌++◌, [], ◌∷◌, ℕ, Bool, None, Some, IsTrue, IfErr, IfOk, MatchResult, false};
 ghost use Rattle.rayon_drive.specs.Paths.{goes};
 ghost use Rattle.rayon_machine_places.specs.Places.{finish, fresh, next_of, settle, undo, walk};
-ghost use Rattle.rayon_tasks.specs.Tasks.{OneJob};
+ghost use Rattle.rayon_tasks.specs.Tasks.{OneJob, taken_in};
 ghost use Rattle.rayon_tasks.specs.Tickets.{unscoped};
 ghost use Rattle.rayon_machine_places.specs.declared.act.Seen.TheVariants as saw;
 ghost use Rattle.rayon_machine_places.specs.declared.place.Count.TheVariants.{OfPool};
@@ -15,7 +15,8 @@ ghost use Rattle.rayon_machine_places.specs.declared.place.Plan.TheVariants.{Her
 ghost use Rattle.rayon_machine_places.specs.declared.place.Share.TheVariants.{OfJob};
 ghost use Rattle.rayon_machine_places.specs.declared.place.Taken.TheVariants.{Plain};
 ghost use Rattle.rayon_machine_places.specs.declared.place.Target.TheVariants.{Termination};
-ghost use Rattle.rayon_machine_places.specs.declared.place.Then.TheVariants.{RunFirst};
+ghost use Rattle.rayon_machine_places.specs.declared.place.Ending.TheVariants.{Fine};
+ghost use Rattle.rayon_machine_places.specs.declared.place.Then.TheVariants.{Answers, RunFirst};
 ghost use Rattle.rayon_performers.specs.Begins.{BringsJob, begins_as};
 ghost use Rattle.rayon_performers.specs.Calls.{IsJobOf, IsOneJob, own_call, own_join};
 ghost use Rattle.rayon_performers.specs.Finds.{StandsLast};
@@ -214,6 +215,38 @@ impl<J: JobKind> Bench<J> {
         self.finish_from(rt, shape, index, place, Seen::Yes, then);
     }
 
+    /// The run of a join's own second side has ended so, and the join gives its unit of the terminate count back: as
+    /// `lower_then`, before the join's result follows.
+    #[inline(always)]
+    pub fn lower_joined<R: Wait>(&mut self, rt: &R, call: OpenCall, last: Ending)
+        requires rests { Resting self.old.chair }
+        ensures path { WorkerGoes (Stay (at.LowerCount (OfPool 0) (OfJob call.job) (Answers call (Some Fine) last))) self.old self.new Back }
+        ensures same { self.new ≡ record self.old { holds = self.old.holds - 1; marks = self.new.marks; trace = self.new.trace } }
+        ensures rests { Resting self.new.chair }
+    {
+        if self.lower(rt, 0, Share::OfJob(call.job)) {
+            self.end_join(rt, call, last);
+        }
+    }
+
+    // The unit that such a join gave back was the pool's last: the workers' terminate latches are set first.
+    #[cold]
+    #[inline(never)]
+    fn end_join<R: Wait>(&mut self, rt: &R, call: OpenCall, last: Ending)
+        requires hands { At Anyhow (Worker 0 self.old.index) self.old (settle self.old.shape (Worker 0 self.old.index) 0 0 (Answers call (Some Fine) last)) }
+        requires ends { EndsIn (Worker 0 self.old.index) Back self.old (settle self.old.shape (Worker 0 self.old.index) 0 0 (Answers call (Some Fine) last)) }
+        ensures path { WorkerGoes (settle self.old.shape (Worker 0 self.old.index) 0 0 (Answers call (Some Fine) last)) self.old self.new Back }
+        ensures same { Told self.old self.new }
+        ensures rests { Resting self.new.chair }
+    {
+        let then = Then::Answers {
+            call,
+            first: Some(Ending::Fine),
+            last,
+        };
+        self.end_count(rt, call.job, then);
+    }
+
     /// A join offers its second side, a job that has this name: Raise, Grow, LookOwn, PushOwn, News and its wakes, as
     /// far as the run of its first side. Answers the join's call. Refused `Ended`, `Full`, `NoRoom`, with the job
     /// back, nothing pushed, and the unit of the terminate count given back.
@@ -383,24 +416,47 @@ impl<J: JobKind> Bench<J> {
     }
 
     /// A join whose first side has ended without a fault looks at its latch, and takes its own second side back where
-    /// that is the newest task of the own deque. Else it goes on as far as another task, or the result.
+    /// that is the newest task of the own deque: it answers that task, whose run begins. Else it goes on as far as
+    /// another task, or the result.
     #[inline(always)]
-    pub fn reclaim<R: Wait>(&mut self, rt: &R, call: OpenCall) -> Reclaimed
+    pub fn reclaim<R: Wait>(&mut self, rt: &R, call: OpenCall) -> Result<Task<J>, Reclaimed>
         requires ticket { HasTicket self.old.call (Some call.number) }
         requires rests { Resting self.old.chair }
-        ensures path { WorkerGoes (Stay (at.JoinProbe call)) self.old self.new (rejoins call result) }
-        ensures found { FoundSo call self.new result }
-        ensures units { self.new.holds ≡ units_after (rejoins call result) self.old.holds }
+        ensures path { MatchResult result
+            (λ t. WorkerGoes (Stay (at.JoinProbe call)) self.old (record self.new { task = Some t }) (Enter (at.SecondSide call) (at.BeginHere call.job)))
+            (λ r. WorkerGoes (Stay (at.JoinProbe call)) self.old self.new (rejoins call r)) }
+        ensures own { IfOk result (λ t. taken_in t ≡ Plain call.job) }
+        ensures found { IfErr result (λ r. FoundSo call self.new r) }
+        ensures units { MatchResult result (λ _. self.new.holds ≡ self.old.holds) (λ r. self.new.holds ≡ units_after (rejoins call r) self.old.holds) }
         ensures seat { SameSeat self.old self.new }
         ensures rests { Resting self.new.chair }
     {
         if self.probe(Latch::OfCall(call.number)) {
-            return self.go_on_set(rt, call);
+            return Err(self.go_on_set(rt, call));
         }
-        let popped = self.pop_own();
-        if is_task(popped, call.job) {
-            return Reclaimed::Own;
+        let Some(task) = self.pop_out() else {
+            return Err(self.go_on_popped(rt, call, Seen::Missing));
+        };
+        if is_plain(task.taken(), call.job) {
+            return Ok(task);
         }
+        Err(self.go_on_found(rt, call, task))
+    }
+
+    // A join goes on that has taken another task of its own deque than its second side.
+    #[cold]
+    #[inline(never)]
+    fn go_on_found<R: Wait>(&mut self, rt: &R, call: OpenCall, task: Task<J>) -> Reclaimed
+        requires hands { Stands (record self.old { task = Some task }) (next_of self.old.shape (Worker 0 self.old.index) (at.JoinPop call) (saw.Task (taken_in task))) }
+        requires other { taken_in task ≡ Plain call.job → ⊥ }
+        ensures path { WorkerGoes (next_of self.old.shape (Worker 0 self.old.index) (at.JoinPop call) (saw.Task (taken_in task))) (record self.old { task = Some task }) self.new (rejoins call result) }
+        ensures found { FoundSo call self.new result }
+        ensures units { self.new.holds ≡ units_after (rejoins call result) self.old.holds }
+        ensures same { SameSeat self.old self.new }
+        ensures rests { Resting self.new.chair }
+    {
+        let popped = Seen::Task(task.taken());
+        self.task = Some(task);
         self.go_on_popped(rt, call, popped)
     }
 
@@ -440,14 +496,14 @@ impl<J: JobKind> Bench<J> {
     }
 }
 
-// Whether the task of this name was seen.
+// Whether the task of this name was taken.
 #[inline(always)]
-fn is_task(seen: Seen, name: u64) -> bool
-    ensures { IsTrue result ↔ (seen ≡ saw.Task (Plain name)) }
+fn is_plain(taken: Taken, name: u64) -> bool
+    ensures { IsTrue result ↔ (taken ≡ Plain name) }
 {
-    match seen {
-        Seen::Task(Taken::Plain(task)) => task == name,
-        _ => false,
+    match taken {
+        Taken::Plain(task) => task == name,
+        Taken::Token { .. } => false,
     }
 }
 

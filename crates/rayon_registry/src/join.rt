@@ -198,13 +198,8 @@ impl<J: JobKind> WorkerThread<J> {
         for _ in rt.forever() {
             self.bench.set_call(held);
             match self.bench.reclaim(rt, call) {
-                Reclaimed::Own => {
-                    let Some(task) = self.bench.take_task() else {
-                        unreachable!()
-                    };
-                    return self.run_second(rt, alloc, call, task, tag);
-                }
-                Reclaimed::Other { task: name, waits } => {
+                Ok(task) => return self.run_second(rt, alloc, call, task, tag),
+                Err(Reclaimed::Other { task: name, waits }) => {
                     held = self.bench.take_call();
                     let begun = self.bench.begin_task(rt, name);
                     self.run_begun(rt, alloc, begun);
@@ -216,7 +211,7 @@ impl<J: JobKind> WorkerThread<J> {
                         return claimed(self.wait_for(rt, alloc, target, held), tag);
                     }
                 }
-                Reclaimed::Answered => return claimed(self.bench.take_done(), tag),
+                Err(Reclaimed::Answered) => return claimed(self.bench.take_done(), tag),
             }
         }
         unreachable!()
@@ -248,12 +243,7 @@ impl<J: JobKind> WorkerThread<J> {
         self.bench.keep_call(alloc, share);
         self.bench.begin_here(call.job);
         let done = self.run_to_done(rt, alloc, job, injected);
-        let then = Then::Answers {
-            call,
-            first: Some(Ending::Fine),
-            last: done.ending(),
-        };
-        self.bench.lower_then(rt, call.job, then);
+        self.bench.lower_joined(rt, call, done.ending());
         claimed(Some(done), tag)
     }
 

@@ -14,9 +14,9 @@ use Rattle.rayon_performers.proofs.Stretches.{traced}
 use Rattle.rayon_registry.proofs.Made.{around_task, last, lowered_as, runs_second, worked_as}
 use Rattle.rayon_registry.proofs.worker_thread.WorkerThread.second_side.Goals as goal
 
-pub returns-in-Own-clause-path : goal.returns-in-Own-clause-path
+pub returns-in-Ok-clause-path : goal.returns-in-Ok-clause-path
 unfolding acts_of index_of shape_at units_of
-returns-in-Own-clause-path g c =
+returns-in-Ok-clause-path g c =
     let a = c.args.self.now in
     let l = c.loop.self in
     let b = c.self.inside.bench in
@@ -25,15 +25,13 @@ returns-in-Own-clause-path g c =
     let o = c.args.call in
     let first = Stay (at.JoinProbe o) in
     let n = Enter (at.SecondSide o) (at.BeginHere o.job) in
-    let mine = subst (λ z. Traced z.shape (Worker 0 z.index) first z.trace u.trace n) c.set_call.ensures (traced s.shape s.index first s u n c.in-Own.ensures.path) in
+    let mine = subst (λ z. Traced z.shape (Worker 0 z.index) first z.trace u.trace n) c.set_call.ensures (traced s.shape s.index first s (record u { task = Some c.in-Ok.task }) n c.in-Ok.ensures.path) in
     let here = subst (λ v. Traced v.shape (Worker 0 v.id.index) first v.acts u.trace n) c.self.view_is mine in
     let found = traced_as l.shape a.shape l.id.index a.id.index first l.acts u.trace n n (ap (λ z. z.index) c.loop.invariant.3) c.loop.invariant.5 refl here in
-    let t = c.take_task.new.self in
-    let index : t.index ≡ a.id.index = search rules in
-    let shape : t.shape ≡ a.shape = search rules in
+    let index : u.index ≡ a.id.index = search rules in
+    let shape : u.shape ≡ a.shape = search rules in
     let w = c.run_second.new.self.acts in
-    let same : t.trace ≡ u.trace = search rules in
-    let lowered = subst (λ (v : Log). Lowered a.shape (Worker 0 a.id.index) o v w) same (lowered_as t.shape a.shape t.index a.id.index o t.trace w index shape c.run_second.ensures.path) in
+    let lowered = lowered_as u.shape a.shape u.index a.id.index o u.trace w index shape c.run_second.ensures.path in
     c.loop.invariant.7 w Back (runs_second a.shape (Worker 0 a.id.index) o l.acts u.trace w c.requires.pool found lowered)
 
 pub returns-then-waits-clause-path : goal.returns-then-waits-clause-path

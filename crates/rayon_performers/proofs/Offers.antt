@@ -1,5 +1,5 @@
 -- The stretches of a join, of an install, and of the end of a run, act by act.
-use Rattle.std.proofs.Common.{◌≡◌, true, false, Bool, ℕ, ◌≤◌, ◌&&◌, ◌==◌, nat_lt, if◌then◌else◌, Result, Ok, Err, MatchResult, None, refl, sym, subst, arith, rules}
+use Rattle.std.proofs.Common.{◌≡◌, true, false, Bool, ℕ, ◌≤◌, ◌&&◌, ◌==◌, nat_lt, if◌then◌else◌, Result, Ok, Err, MatchResult, None, ap, refl, sym, subst, arith, rules}
 use Rattle.rayon_machine_places.specs.declared.place.Count.TheVariants.{OfPool}
 use Rattle.rayon_machine_places.specs.declared.place.Taken.TheVariants.{Plain}
 use Rattle.rayon_machine_places.specs.declared.place.Party.{Party}
@@ -16,12 +16,15 @@ use Rattle.rayon_machine_places.specs.declared.place.Move.TheVariants.{Stay, Ent
 use Rattle.rayon_machine_places.specs.declared.place.Place.TheVariants as at
 use Rattle.rayon_machine_places.specs.declared.act.Act.TheVariants as acts
 use Rattle.rayon_machine_places.specs.declared.act.Seen.{Seen}
-use Rattle.rayon_machine_places.specs.declared.act.Seen.TheVariants.{Begun, Done, Refused, Yes, No, Task, Wakes}
+use Rattle.rayon_machine_places.specs.declared.act.Seen.TheVariants.{Begun, Done, Missing, Refused, Yes, No, Task, Wakes}
 use Rattle.rayon_machine_places.specs.declared.shape.PoolShape.{PoolShape}
 use Rattle.rayon_machine_places.specs.Places.{next_of, walk, finish, undo}
 use Rattle.rayon_drive.specs.Traces.{Adds}
 use Rattle.rayon_performers.specs.Calls.{own_call, own_join}
+use Rattle.rayon_atomics.specs.declared.views.Guard.{Guard}
 use Rattle.rayon_performers.specs.Hands.{Hands, Does, Same, Looks, kind_of}
+use Rattle.rayon_performers.specs.Waits.{holding}
+use Rattle.rayon_tasks.specs.Tickets.{TicketOf}
 use Rattle.rayon_shared.specs.AtHand.{answer}
 use Rattle.rayon_performers.proofs.Stretches.{So, so_far, by_act}
 
@@ -83,3 +86,10 @@ module _ {X G O F : Type 0} (h : PoolShape) (i : ℕ) (o : OpenCall) (s t u : Ha
       let z : (o.job == o.job) ≡ true = search rules in
       subst (λ (r : Bool). So h i (Stay (at.JoinProbe o)) s (if r then Enter (at.SecondSide o) (at.BeginHere o.job) else Enter (at.JoinProbe o) (at.BeginTask (Plain o.job))) u) z
       (subst (λ (r : Seen). So h i (Stay (at.JoinProbe o)) s (next_of h (Worker 0 i) (at.JoinPop o) r) u) e a)
+
+module _ {X G O F : Type 0} (c : TicketOf) (l : Guard) where
+  -- a pop of the own deque leaves a call alone that is kept beside what is at hand
+  pub pops_holding : (x : Seen) (s t : Hands X G O F) → Does acts.PopOwn x s t → Does acts.PopOwn x (holding c l s) (holding c l t)
+  pops_holding (Task n) s t d = (ap (holding c l) d.0, d.1)
+  pops_holding Missing s t d = (ap (holding c l) d.0, d.1)
+  pops_holding _ s t d = absurd d.1

@@ -15,6 +15,7 @@ use Rattle.rayon_performers.specs.declared.reclaimed.Reclaimed.{Reclaimed}
 use Rattle.rayon_performers.specs.declared.reclaimed.Reclaimed.TheVariants.{Other, Answered}
 use Rattle.rayon_performers.specs.Hands.{Hands, HasTask}
 use Rattle.rayon_shared.specs.AtHand.{HasTicket}
+use Rattle.rayon_tasks.specs.Tickets.{TicketOf}
 
 -- a task that was in a queue begins
 abbrev pub IsTaken : Place → Type 0
@@ -61,3 +62,7 @@ module _ {X G O F : Type 0} where
   -- the same worker, where a seat that knows this stands for that of its terminate latch
   abbrev pub waiting_on : Guard → Hands X G O F → Hands X G O F
   waiting_on v s = record s { guards = record { own = v; call = s.guards.call } }
+
+  -- the same worker, where a call that it keeps beside what is at hand is at hand too
+  abbrev pub holding : TicketOf → Guard → Hands X G O F → Hands X G O F
+  holding c l s = record s { call = Some c; guards = record { own = s.guards.own; call = Some l } }

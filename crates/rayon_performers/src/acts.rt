@@ -191,8 +191,7 @@ impl<J: JobKind> Bench<J> {
     {
         match self.own.pop() {
             Some(task) => {
-                let taken = task.taken();
-                self.add(Act::PopOwn, Seen::Task(taken));
+                self.add(Act::PopOwn, Seen::Task(task.taken()));
                 Some(task)
             }
             None => {

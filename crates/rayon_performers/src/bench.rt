@@ -4,6 +4,7 @@ ghost use Rattle.std.specs.Arc.{arc_value};
 ghost use Rattle.rayon_drive.specs.Traces.{AddsRun};
 ghost use Rattle.rayon_drive.specs.declared.trace.Log.TheVariants.{Empty};
 ghost use Rattle.rayon_performers.specs.Hands.{Hands};
+ghost use Rattle.rayon_performers.specs.Waits.{holding};
 ghost use Rattle.rayon_shared.specs.Pools.{shape_of};
 ghost use Rattle.rayon_shared.specs.Seats.{Resting};
 ghost use Rattle.rayon_queues.specs.Deques.{visitor};
@@ -227,18 +228,24 @@ impl<J: JobKind> Bench<J> {
         self.call.take()
     }
 
-    /// The call at hand has ended, and the one other share of its ticket came back, which was never used: its block,
-    /// its latch and both shares serve a later call. Where there is no room they are let go.
+    /// A call that waits comes to hand.
+    #[cold]
+    #[inline(never)]
+    pub(crate) fn take_up(&mut self, held: Call<J>)
+        ensures { self.new ≡ holding held.ticket held.latch self.old }
+    {
+        self.call = Some(held);
+    }
+
+    /// A call has ended, and the one other share of its ticket came back, which was never used: its block, its latch
+    /// and both shares serve a later call. Where there is no room they are let go.
     #[inline(always)]
-    pub fn keep_call(&mut self, alloc: Global, share: Ticket<J>)
-        ensures { self.new ≡ record self.old { call = None; guards = record { own = self.old.guards.own; call = None } } }
+    pub fn keep_call(&mut self, alloc: Global, call: Call<J>, share: Ticket<J>)
+        ensures { self.new ≡ self.old }
     {
         if self.spares.is_none() {
             self.spares = Some(Vec::new(alloc));
         }
-        let Some(call) = self.call.take() else {
-            return;
-        };
         if let Some(spares) = &mut self.spares {
             if let Some(place) = spares.get_mut(self.kept) {
                 *place = Some((call, share));

@@ -7,7 +7,8 @@ ghost use Rattle.rayon_machine_places.specs.declared.act.Act.TheVariants as acts
 ghost use Rattle.rayon_performers.specs.Hands.{Does};
 ghost use Rattle.rayon_shared.specs.AtHand.{HasTicket, answer, call_latch};
 ghost use Rattle.rayon_performers.specs.Sights.{CallSteps, Finds, Turns, Wakes, Watches};
-ghost use Rattle.rayon_performers.specs.Waits.{waiting_on};
+ghost use Rattle.rayon_machine_places.specs.declared.place.Latch.TheVariants.{OfCall};
+ghost use Rattle.rayon_performers.specs.Waits.{holding, waiting_on};
 ghost use Rattle.rayon_tasks.specs.Calls.{latch_in, ticket_in};
 
 use crate::bench::Bench;
@@ -28,6 +29,18 @@ impl<J: JobKind> Bench<J> {
     {
         let is_set = self.look_at(latch);
         self.saw(latch, is_set);
+        is_set
+    }
+
+    // Looks at the latch of a call of the worker that is not in hand: the look is told as that at a call in hand.
+    #[inline(always)]
+    pub(crate) fn probe_held(&mut self, held: &mut Call<J>, call: u64) -> bool
+        ensures does { Does (acts.Probe (OfCall call)) (answer result) (holding held.old.ticket held.old.latch self.old) (holding held.new.ticket held.new.latch self.new) }
+        ensures adds { Adds (acts.Probe (OfCall call)) (answer result) self.old.trace self.new.trace }
+        ensures ticket { held.new.ticket ≡ held.old.ticket }
+    {
+        let is_set = held.latch.probe();
+        self.saw(Latch::OfCall(call), is_set);
         is_set
     }
 

@@ -4,7 +4,7 @@ ghost use Rattle.std.specs.Prelude.{◌≡◌, ◌⊎◌, ◌↔◌, ◌+◌, �
 ghost use Rattle.rayon_drive.specs.Paths.{goes};
 ghost use Rattle.rayon_machine_places.specs.Places.{finish, fresh, next_of, settle, undo, walk};
 ghost use Rattle.rayon_tasks.specs.Tasks.{OneJob, taken_in};
-ghost use Rattle.rayon_tasks.specs.Tickets.{unscoped};
+ghost use Rattle.rayon_tasks.specs.Tickets.{call_in, unscoped};
 ghost use Rattle.rayon_machine_places.specs.declared.act.Seen.TheVariants as saw;
 ghost use Rattle.rayon_machine_places.specs.declared.place.Count.TheVariants.{OfPool};
 ghost use Rattle.rayon_machine_places.specs.declared.place.JobKind.TheVariants.{Direct};
@@ -26,7 +26,7 @@ ghost use Rattle.rayon_shared.specs.Marks.{GivesUnit, KeepsUnits, MissesUnit, Ta
 ghost use Rattle.rayon_performers.specs.Paths.{WorkerGoes, WorkerGoesIn};
 ghost use Rattle.rayon_shared.specs.Seats.{Resting};
 ghost use Rattle.rayon_performers.specs.Stands.{Anyhow, At, EndsIn, Last, Stands, call_to, hand};
-ghost use Rattle.rayon_performers.specs.Waits.{FoundSo, SameSeat, Waited, rejoins, units_after, waiting_on};
+ghost use Rattle.rayon_performers.specs.Waits.{FoundSo, SameSeat, Waited, holding, rejoins, units_after, waiting_on};
 ghost use Rattle.rayon_queues.specs.Deques.{SameDeque, Unmoved};
 
 use crate::bench::Bench;
@@ -36,7 +36,7 @@ use rayon_drive::drive::drive;
 use rayon_jobs::JobKind;
 use rayon_machine_places::act::Seen;
 use rayon_machine_places::place::{
-    Count, Ending, Latch, Move, OpenCall, Party, Place, Plan, Share, Taken, Target, Then,
+    Count, Ending, Move, OpenCall, Party, Place, Plan, Share, Taken, Target, Then,
 };
 use rayon_machine_places::shape::PoolShape;
 use rayon_tasks::{Call, Task, Ticket, Work, task_of_job, task_parts};
@@ -416,30 +416,38 @@ impl<J: JobKind> Bench<J> {
     }
 
     /// A join whose first side has ended without a fault looks at its latch, and takes its own second side back where
-    /// that is the newest task of the own deque: it answers that task, whose run begins. Else it goes on as far as
-    /// another task, or the result.
+    /// that is the newest task of the own deque: it answers that task, whose run begins, and the join's call. Else the
+    /// call comes to hand, and the join goes on as far as another task, or the result.
     #[inline(always)]
-    pub fn reclaim<R: Wait>(&mut self, rt: &R, call: OpenCall) -> Result<Task<J>, Reclaimed>
-        requires ticket { HasTicket self.old.call (Some call.number) }
+    pub fn reclaim<R: Wait>(
+        &mut self,
+        rt: &R,
+        call: OpenCall,
+        mut held: Call<J>,
+    ) -> Result<(Task<J>, Call<J>), Reclaimed>
+        requires ticket { call_in held.ticket ≡ call.number }
         requires rests { Resting self.old.chair }
         ensures path { MatchResult result
-            (λ t. WorkerGoes (Stay (at.JoinProbe call)) self.old (record self.new { task = Some t }) (Enter (at.SecondSide call) (at.BeginHere call.job)))
-            (λ r. WorkerGoes (Stay (at.JoinProbe call)) self.old self.new (rejoins call r)) }
-        ensures own { IfOk result (λ t. taken_in t ≡ Plain call.job) }
+            (λ r. WorkerGoes (Stay (at.JoinProbe call)) (holding held.ticket held.latch self.old) (record (holding r.1.ticket r.1.latch self.new) { task = Some r.0 }) (Enter (at.SecondSide call) (at.BeginHere call.job)))
+            (λ r. WorkerGoes (Stay (at.JoinProbe call)) (holding held.ticket held.latch self.old) self.new (rejoins call r)) }
+        ensures own { IfOk result (λ r. taken_in r.0 ≡ Plain call.job) }
         ensures found { IfErr result (λ r. FoundSo call self.new r) }
         ensures units { MatchResult result (λ _. self.new.holds ≡ self.old.holds) (λ r. self.new.holds ≡ units_after (rejoins call r) self.old.holds) }
         ensures seat { SameSeat self.old self.new }
         ensures rests { Resting self.new.chair }
     {
-        if self.probe(Latch::OfCall(call.number)) {
+        if self.probe_held(&mut held, call.number) {
+            self.take_up(held);
             return Err(self.go_on_set(rt, call));
         }
         let Some(task) = self.pop_out() else {
+            self.take_up(held);
             return Err(self.go_on_popped(rt, call, Seen::Missing));
         };
         if is_plain(task.taken(), call.job) {
-            return Ok(task);
+            return Ok((task, held));
         }
+        self.take_up(held);
         Err(self.go_on_found(rt, call, task))
     }
 

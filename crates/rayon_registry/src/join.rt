@@ -196,9 +196,11 @@ impl<J: JobKind> WorkerThread<J> {
     {
         let mut held = Some(held);
         for _ in rt.forever() {
-            self.bench.set_call(held);
-            match self.bench.reclaim(rt, call) {
-                Ok(task) => return self.run_second(rt, alloc, call, task, tag),
+            let Some(waiting) = held else { unreachable!() };
+            match self.bench.reclaim(rt, call, waiting) {
+                Ok((task, ended)) => {
+                    return self.run_second(rt, alloc, call, ended, task, tag);
+                }
                 Err(Reclaimed::Other { task: name, waits }) => {
                     held = self.bench.take_call();
                     let begun = self.bench.begin_task(rt, name);
@@ -226,6 +228,7 @@ impl<J: JobKind> WorkerThread<J> {
         rt: &R,
         alloc: Global,
         call: OpenCall,
+        ended: Call<J>,
         task: Task<J>,
         tag: &J::Tag,
     ) -> Result<Result<J::Output, J::Fault>, Lost>
@@ -237,10 +240,13 @@ impl<J: JobKind> WorkerThread<J> {
         ensures path { Lowered self.old.shape (Worker 0 self.old.id.index) call self.old.acts self.new.acts }
     {
         if !task.is_single() {
-            return claimed(Some(self.run_second_pair(rt, alloc, call, task)), tag);
+            return claimed(
+                Some(self.run_second_pair(rt, alloc, call, ended, task)),
+                tag,
+            );
         }
         let (job, injected, share) = single_parts(task);
-        self.bench.keep_call(alloc, share);
+        self.bench.keep_call(alloc, ended, share);
         self.bench.begin_here(call.job);
         let done = self.run_to_done(rt, alloc, job, injected);
         self.bench.lower_joined(rt, call, done.ending());
@@ -256,6 +262,7 @@ impl<J: JobKind> WorkerThread<J> {
         rt: &R,
         alloc: Global,
         call: OpenCall,
+        ended: Call<J>,
         task: Task<J>,
     ) -> Done<J>
         requires some { 0 < self.old.levels }
@@ -266,7 +273,7 @@ impl<J: JobKind> WorkerThread<J> {
     {
         let name = call.job;
         let (work, injected, share) = task_parts(task);
-        self.bench.keep_call(alloc, share);
+        self.bench.keep_call(alloc, ended, share);
         self.bench.begin_here(name);
         let (done, first) = self.run_work(rt, alloc, work, FnContext::new(injected));
         if let Some((ticket, done)) = first {

@@ -10,6 +10,7 @@ use Rattle.rayon_drive.specs.Paths.{Traced}
 use Rattle.rayon_drive.proofs.Traced.{traced_as}
 use Rattle.rayon_registry.specs.Acts.{Lowered, Worked}
 use Rattle.rayon_registry.specs.Pushes.{acts_of, index_of, shape_at, units_of}
+use Rattle.rayon_performers.specs.Waits.{holding}
 use Rattle.rayon_performers.proofs.Stretches.{traced}
 use Rattle.rayon_registry.proofs.Made.{around_task, last, lowered_as, runs_second, worked_as}
 use Rattle.rayon_registry.proofs.worker_thread.WorkerThread.second_side.Goals as goal
@@ -20,12 +21,12 @@ returns-in-Ok-clause-path g c =
     let a = c.args.self.now in
     let l = c.loop.self in
     let b = c.self.inside.bench in
-    let s = c.set_call.new.self in
+    let s = holding c.in-Some.waiting.ticket c.in-Some.waiting.latch b in
     let u = c.reclaim.new.self in
     let o = c.args.call in
     let first = Stay (at.JoinProbe o) in
     let n = Enter (at.SecondSide o) (at.BeginHere o.job) in
-    let mine = subst (λ z. Traced z.shape (Worker 0 z.index) first z.trace u.trace n) c.set_call.ensures (traced s.shape s.index first s (record u { task = Some c.in-Ok.task }) n c.in-Ok.ensures.path) in
+    let mine = traced s.shape s.index first s (record (holding c.in-Ok.ended.ticket c.in-Ok.ended.latch u) { task = Some c.in-Ok.task }) n c.in-Ok.ensures.path in
     let here = subst (λ v. Traced v.shape (Worker 0 v.id.index) first v.acts u.trace n) c.self.view_is mine in
     let found = traced_as l.shape a.shape l.id.index a.id.index first l.acts u.trace n n (ap (λ z. z.index) c.loop.invariant.3) c.loop.invariant.5 refl here in
     let index : u.index ≡ a.id.index = search rules in
@@ -42,15 +43,14 @@ returns-then-waits-clause-path g c =
     let a = c.args.self.now in
     let l = c.loop.self in
     let b = c.self.inside.bench in
-    let s = c.set_call.new.self in
+    let s = holding c.in-Some.waiting.ticket c.in-Some.waiting.latch b in
     let u = c.reclaim.new.self in
     let o = c.args.call in
     let first = Stay (at.JoinProbe o) in
     let n = Enter wait p in
     let waits : c.in-Other.waits ≡ true = search rules in
     let moved = subst (λ (z : Bool). Traced s.shape (Worker 0 s.index) first s.trace u.trace (Enter (if z then wait else at.JoinProbe o) p)) waits (traced s.shape s.index first s u _ c.in-Other.ensures.path) in
-    let mine = subst (λ z. Traced z.shape (Worker 0 z.index) first z.trace u.trace n) c.set_call.ensures moved in
-    let here = subst (λ v. Traced v.shape (Worker 0 v.id.index) first v.acts u.trace n) c.self.view_is mine in
+    let here = subst (λ v. Traced v.shape (Worker 0 v.id.index) first v.acts u.trace n) c.self.view_is moved in
     let found = traced_as l.shape a.shape l.id.index a.id.index first l.acts u.trace n n (ap (λ z. z.index) c.loop.invariant.3) c.loop.invariant.5 refl here in
     let x = c.run_begun.new.self in
     let w = c.wait_for.new.self.acts in
@@ -68,7 +68,7 @@ loop-preserved g c =
     let a = c.args.self.now in
     let l = c.loop.self in
     let b = c.self.inside.bench in
-    let s = c.set_call.new.self in
+    let s = holding c.in-Some.waiting.ticket c.in-Some.waiting.latch b in
     let u = c.reclaim.new.self in
     let o = c.args.call in
     let wait = at.ProbeWorking (fresh (Answer o (Some Fine))) in
@@ -76,8 +76,7 @@ loop-preserved g c =
     let n = Enter (at.JoinProbe o) p in
     let looks : c.in-Other.waits ≡ false = search rules in
     let moved = subst (λ (z : Bool). Traced s.shape (Worker 0 s.index) first s.trace u.trace (Enter (if z then wait else at.JoinProbe o) p)) looks (traced s.shape s.index first s u _ c.in-Other.ensures.path) in
-    let mine = subst (λ z. Traced z.shape (Worker 0 z.index) first z.trace u.trace n) c.set_call.ensures moved in
-    let here = subst (λ v. Traced v.shape (Worker 0 v.id.index) first v.acts u.trace n) c.self.view_is mine in
+    let here = subst (λ v. Traced v.shape (Worker 0 v.id.index) first v.acts u.trace n) c.self.view_is moved in
     let found = traced_as l.shape a.shape l.id.index a.id.index first l.acts u.trace n n (ap (λ z. z.index) c.loop.invariant.3) c.loop.invariant.5 refl here in
     let t = c.take_call-held.new.self in
     let y = c.begin_task-begun.new.self in (
@@ -97,11 +96,11 @@ returns-in-Answered-clause-path g c =
     let a = c.args.self.now in
     let l = c.loop.self in
     let b = c.self.inside.bench in
-    let s = c.set_call.new.self in
+    let s = holding c.in-Some.waiting.ticket c.in-Some.waiting.latch b in
     let u = c.reclaim.new.self in
     let o = c.args.call in
     let first = Stay (at.JoinProbe o) in
-    let mine = subst (λ z. Traced z.shape (Worker 0 z.index) first z.trace u.trace Back) c.set_call.ensures (traced s.shape s.index first s u Back c.in-Answered.ensures.path) in
+    let mine = traced s.shape s.index first s u Back c.in-Answered.ensures.path in
     let here = subst (λ v. Traced v.shape (Worker 0 v.id.index) first v.acts u.trace Back) c.self.view_is mine in
     let found = traced_as l.shape a.shape l.id.index a.id.index first l.acts u.trace Back Back (ap (λ z. z.index) c.loop.invariant.3) c.loop.invariant.5 refl here in
     subst (λ z. Worked a.shape (Worker 0 a.id.index) first a.acts z.trace Back) (sym c.take_done.ensures.left)

@@ -1,8 +1,8 @@
 """The libraries that `rt ci` proved on this machine, one of each crate, beside what passed (tests/kept.py).
 
-Each lies in a folder of the crate's name, with the key of the crate's pass and a checksum of its files. One of another
-key, a damaged one, a folder that can't be written and no folder at all are the same as no library, and no error is told.
-Where the variable TUNKHAZEL_ANEW is set none is found.
+Each lies in a folder of the crate's name, with the key of the crate's pass and a checksum of its files. One of
+another key, a damaged one, a folder that can't be written and no folder at all are the same as no library, and no
+error is told. Where the variable TUNKHAZEL_ANEW is set none is found.
 """
 import hashlib
 import os

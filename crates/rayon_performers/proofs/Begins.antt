@@ -15,7 +15,7 @@ use Rattle.rayon_tasks.specs.Tickets.{TicketOf, kind_in}
 use Rattle.rayon_performers.specs.Begins.{begins_as}
 use Rattle.rayon_performers.specs.Hands.{Hands, HasTask, Does, kind_of}
 use Rattle.rayon_performers.proofs.Offers.{begun_task}
-use Rattle.rayon_performers.proofs.Stretches.{So, so_far, by_act}
+use Rattle.rayon_performers.proofs.Stretches.{So, first_act}
 
 -- what was taken is a task
 abbrev IsPlain : Taken → Type 0
@@ -64,10 +64,10 @@ module _ {X G O F : Type 0} (h : PoolShape) (i : ℕ) (s t v : Hands X G O F) wh
       let same : s.task ≡ r = sym (e ∙ ap (λ (z : Hands X G O F). z.task) d.0) in
       plain_so n r (subst (λ (z : Option (TaskOf X)). HasTask z (Some (Plain n))) same k) (subst (λ (z : Option (TaskOf X)). So h i (Stay (at.BeginTask (Plain n))) s (Stay (at.Run n (kind_of z))) t) same (begun_task h i n s t x d a))
   acted (Token n j b) (Handed m o) r e k d a =
-      let path = by_act h i (Stay (at.BeginTask (Token n j b))) s (Stay (at.BeginTask (Token n j b))) s t (Handed m o) refl (so_far h i (Stay (at.BeginTask (Token n j b))) s) d a in
+      let path = first_act h i (Stay (at.BeginTask (Token n j b))) s t (Handed m o) refl d a in
       token_so n j b m o r (subst (λ (z : Option (TaskOf X)). HasTask z (Some (Plain m))) (sym e) d.1.0) (subst (λ (z : Option (TaskOf X)). o ≡ kind_of z) (sym e) d.1.1) path
   acted (Token n j b) Missing r e k d a =
-      let path = by_act h i (Stay (at.BeginTask (Token n j b))) s (Stay (at.BeginTask (Token n j b))) s t Missing refl (so_far h i (Stay (at.BeginTask (Token n j b))) s) d a in
+      let path = first_act h i (Stay (at.BeginTask (Token n j b))) s t Missing refl d a in
       let none : r ≡ None = e ∙ d.1 in
       subst (λ (z : Option (TaskOf X)). So h i (Stay (at.BeginTask (Token n j b))) s (begins_as (Token n j b) z) t) (sym none) path
   acted (Token n j b) _ r e k d a = absurd d.1

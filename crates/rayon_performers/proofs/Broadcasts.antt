@@ -1,57 +1,27 @@
 -- A broadcast that waits, act by act.
-use Rattle.std.proofs.Common.{◌≡◌, ℕ, Bool, true, false, Option, Some, None, refl, subst, sym}
-use Rattle.rayon_machine_places.specs.declared.act.Act.TheVariants as acts
-use Rattle.rayon_machine_places.specs.declared.act.Seen.TheVariants.{Done, Refused}
-use Rattle.rayon_machine_places.specs.declared.place.Count.TheVariants.{OfPool}
+use Rattle.std.proofs.Common.{◌≡◌, ℕ, true, false, Option, Some, None, refl, subst, sym}
 use Rattle.rayon_machine_places.specs.declared.place.Mark.{Mark as AnyMark}
-use Rattle.rayon_machine_places.specs.declared.place.Mark.TheVariants.{Dealt}
 use Rattle.rayon_machine_places.specs.declared.place.Move.{Move}
-use Rattle.rayon_machine_places.specs.declared.place.Move.TheVariants.{HandBack, Mark, Stay}
+use Rattle.rayon_machine_places.specs.declared.place.Move.TheVariants.{Mark, Stay}
 use Rattle.rayon_machine_places.specs.declared.place.OpenCall.{OpenCall}
 use Rattle.rayon_machine_places.specs.declared.place.Party.TheVariants.{Worker}
 use Rattle.rayon_machine_places.specs.declared.place.Pieces.{Pieces}
 use Rattle.rayon_machine_places.specs.declared.place.Place.{Place}
 use Rattle.rayon_machine_places.specs.declared.place.Place.TheVariants as at
-use Rattle.rayon_machine_places.specs.declared.place.Plan.TheVariants.{Gather}
 use Rattle.rayon_machine_places.specs.declared.place.Target.TheVariants.{Answer}
 use Rattle.rayon_machine_places.specs.declared.place.Then.TheVariants.{Gathers}
 use Rattle.rayon_machine_places.specs.declared.shape.PoolShape.{PoolShape}
-use Rattle.rayon_machine_places.specs.Places.{gather_all, is_rest, undo}
-use Rattle.rayon_drive.specs.Traces.{Adds}
+use Rattle.rayon_machine_places.specs.Places.{is_rest}
 use Rattle.rayon_drive.proofs.Paths.{driven_from}
 use Rattle.rayon_tasks.specs.Tickets.{CoreOf, TicketOf, call_alone}
-use Rattle.rayon_performers.specs.Broadcasts.{dealt, gathering}
-use Rattle.rayon_performers.specs.Calls.{own_call}
-use Rattle.rayon_performers.specs.Hands.{Hands, Does, Same}
+use Rattle.rayon_performers.specs.Hands.{Hands, Does}
 use Rattle.rayon_shared.specs.AtHand.{HasTicket}
 use Rattle.rayon_shared.specs.Marks.{IsBroadcast, broadcast_in}
 use Rattle.rayon_shared.specs.Seats.{Resting}
 use Rattle.rayon_performers.specs.Stands.{Anyhow, At}
 use Rattle.rayon_performers.specs.Waits.{Waited}
-use Rattle.rayon_performers.proofs.Stretches.{So, so_far, by_act}
+use Rattle.rayon_performers.proofs.Stretches.{So}
 use Rattle.rayon_performers.proofs.Waits.{EndsWait}
-
-module _ {X G O F : Type 0} (h : PoolShape) (i n a w : ℕ) (s t u : Hands X G O F) where
-  -- the call's unit of the terminate count is taken, or refused
-  pub gather_raised : Does (acts.Raise (OfPool 0) n) Done s t → Adds (acts.Raise (OfPool 0) n) Done s.trace t.trace → So h i (Stay (at.RaiseCount (Gather (gathering i n a w)))) s (Stay (at.GrowCast (gathering i n a w))) t
-  gather_raised d e = by_act h i (Stay (at.RaiseCount (Gather (gathering i n a w)))) s (Stay (at.RaiseCount (Gather (gathering i n a w)))) s t Done refl (so_far h i (Stay (at.RaiseCount (Gather (gathering i n a w)))) s) d e
-
-  pub gather_not_raised : Does (acts.Raise (OfPool 0) n) Refused s t → Adds (acts.Raise (OfPool 0) n) Refused s.trace t.trace → So h i (Stay (at.RaiseCount (Gather (gathering i n a w)))) s (HandBack (Gather (gathering i n a w))) t
-  gather_not_raised d e = by_act h i (Stay (at.RaiseCount (Gather (gathering i n a w)))) s (Stay (at.RaiseCount (Gather (gathering i n a w)))) s t Refused refl (so_far h i (Stay (at.RaiseCount (Gather (gathering i n a w)))) s) d e
-
-  -- its call and its pieces are made, or there was no room
-  pub cast_grown : (m : Move) → So h i m s (Stay (at.GrowCast (gathering i n a w))) t → Same t u → Adds (acts.Grow n) Done t.trace u.trace → So h i m s (Stay (at.DealPieces (gathering i n a w))) u
-  cast_grown m b d e = by_act h i m s (Stay (at.GrowCast (gathering i n a w))) t u Done refl b (d, tt) e
-
-  pub cast_not_grown : (m : Move) → So h i m s (Stay (at.GrowCast (gathering i n a w))) t → Same t u → Adds (acts.Grow n) Refused t.trace u.trace → So h i m s (Stay (undo (Gather (gathering i n a w)))) u
-  cast_not_grown m b d e = by_act h i m s (Stay (at.GrowCast (gathering i n a w))) t u Refused refl b (d, tt) e
-
-  -- the pieces are queued, or were refused
-  pub pieces_dealt : (m : Move) → So h i m s (Stay (at.DealPieces (gathering i n a w))) t → Same t u → Adds (acts.PushCast (dealt i n a w)) Done t.trace u.trace → So h i m s (Mark (gather_all h (own_call n)) (dealt i n a w) Dealt) u
-  pieces_dealt m b d e = by_act h i m s (Stay (at.DealPieces (gathering i n a w))) t u Done refl b (d, tt) e
-
-  pub pieces_not_dealt : (m : Move) → So h i m s (Stay (at.DealPieces (gathering i n a w))) t → Same t u → Adds (acts.PushCast (dealt i n a w)) Refused t.trace u.trace → So h i m s (Stay (undo (Gather (gathering i n a w)))) u
-  pieces_not_dealt m b d e = by_act h i m s (Stay (at.DealPieces (gathering i n a w))) t u Refused refl b (d, tt) e
 
 -- a wait for a call ends at no place
 waited_stays_not : (o : OpenCall) (m : Move) (y : Place) → Waited (Answer o None) m → m ≡ Stay y → is_rest y ≡ true

@@ -26,7 +26,8 @@ use Rattle.rayon_shared.specs.Marks.{GivesUnit, Marks, Tally}
 use Rattle.rayon_shared.specs.Seats.{Resting}
 use Rattle.rayon_performers.specs.Stands.{Anyhow, At, Ended, Hand, Last, Next, hand}
 use Rattle.rayon_performers.specs.Waits.{SameSeat}
-use Rattle.rayon_performers.proofs.Stretches.{So}
+use Rattle.rayon_performers.specs.Paths.{WorkerGoes}
+use Rattle.rayon_performers.proofs.Stretches.{So, and_then}
 
 module _ {X G O F : Type 0} where
   -- no step of a count changes whose bench it is
@@ -56,6 +57,17 @@ module _ {X G O F : Type 0} where
 
   pub drive_stays : (h : PoolShape) (i : ℕ) (m : Move) (s u : Hands X G O F) (n : Move) → So h i m s n u → SameSeat s u
   drive_stays h i m s u n d = driven_keeps (λ (a : Hands X G O F) x y b. Does x y a b) (λ (a : Hands X G O F). a.trace) (λ (v : Hands X G O F) k. SameSeat s v) h (Worker 0 i) (λ v k y e b. b) (λ v w y x r b f. seat_then s v w b (does_stays (act_of (Worker 0 i) y) x v w f)) m s u n (refl, refl) d
+
+  -- a path goes on by another of the same worker, from where the table leads in its pool: no act changes whose bench it is
+  pub then_at : (m : Move) (n : PoolShape → ℕ → Move) (l : Move) (s t u : Hands X G O F) → WorkerGoes m s t (n s.shape s.index) → WorkerGoes (n t.shape t.index) t u l → WorkerGoes m s u l
+  then_at m n l s t u a b =
+      let same = drive_stays s.shape s.index m s t (n s.shape s.index) a in
+      and_then s.shape s.index m s (n s.shape s.index) l t u a
+      (subst (λ (z : ℕ). So s.shape z (n s.shape z) t l u) same.0 (subst (λ (z : PoolShape). So z t.index (n z t.index) t l u) same.1 b))
+
+  -- the same from a move that is named by neither
+  pub then_goes : (m n l : Move) (s t u : Hands X G O F) → WorkerGoes m s t n → WorkerGoes n t u l → WorkerGoes m s u l
+  then_goes m n l s t u a b = then_at m (λ h i. n) l s t u a b
 
   pub rests_there : (q : Party) (s : Hands X G O F) (m : Move) → goes m ≡ false → At Anyhow q s m → Resting s.chair
   rests_there q s m g a = (ended Anyhow q s m g a).1

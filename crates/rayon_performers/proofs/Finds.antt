@@ -6,15 +6,14 @@ use Rattle.rayon_machine_places.specs.declared.place.Party.TheVariants.{Worker}
 use Rattle.rayon_machine_places.specs.declared.place.Place.{Place}
 use Rattle.rayon_machine_places.specs.declared.place.Place.TheVariants as at
 use Rattle.rayon_machine_places.specs.declared.place.Plan.TheVariants.{Detach}
-use Rattle.rayon_machine_places.specs.declared.place.Then.TheVariants.{Resume}
 use Rattle.rayon_machine_places.specs.declared.place.Move.{Move}
 use Rattle.rayon_machine_places.specs.declared.place.Move.TheVariants.{Stay, Back}
 use Rattle.rayon_machine_places.specs.declared.act.Act.{Act}
 use Rattle.rayon_machine_places.specs.declared.act.Act.TheVariants as acts
 use Rattle.rayon_machine_places.specs.declared.act.Seen.{Seen}
-use Rattle.rayon_machine_places.specs.declared.act.Seen.TheVariants.{Yes, No, Task, Missing, Start, Wakes}
+use Rattle.rayon_machine_places.specs.declared.act.Seen.TheVariants.{Yes, No, Task, Missing, Start}
 use Rattle.rayon_machine_places.specs.declared.shape.PoolShape.{PoolShape}
-use Rattle.rayon_machine_places.specs.Places.{act_of, next_of, next_victim, not_self, walk}
+use Rattle.rayon_machine_places.specs.Places.{act_of, next_of, next_victim, not_self}
 use Rattle.rayon_drive.specs.Paths.{goes}
 use Rattle.rayon_drive.specs.Traces.{Adds}
 use Rattle.rayon_queues.specs.Deques.{Deque, DequeId, Leaves, Popped, SameDeque, Thief, Unmoved, Visitor}
@@ -22,7 +21,7 @@ use Rattle.rayon_tasks.specs.Tasks.{TaskOf, taken_in}
 use Rattle.rayon_performers.specs.Hands.{Hands, HasTask, Needs, Does, Same, Looks, PoppedFrom, StolenBy, TakenBy}
 use Rattle.rayon_shared.specs.AtHand.{answer}
 use Rattle.rayon_performers.specs.Finds.{Found, Kept}
-use Rattle.rayon_performers.proofs.Stretches.{So, so_far, by_act}
+use Rattle.rayon_performers.proofs.Stretches.{So, first_act, by_act}
 
 -- no task was seen
 abbrev pub NoTask : Seen → Type 0
@@ -51,7 +50,7 @@ module _ {X G O F : Type 0} (s t u : Hands X G O F) where
   local_looked : (h : PoolShape) (i : ℕ) (x : Seen) → NoTask x → Does acts.PopOwn x s t → Adds acts.PopOwn x s.trace t.trace → So h i (Stay at.LocalPop) s (Stay at.LocalTakeCast) t
   local_looked h i x k d a =
       let first = Stay at.LocalPop in
-      subst (λ (m : Move). So h i first s m t) (local_goes h (Worker 0 i) x k) (by_act h i first s first s t x refl (so_far h i first s) d a)
+      subst (λ (m : Move). So h i first s m t) (local_goes h (Worker 0 i) x k) (first_act h i first s t x refl d a)
 
   -- the own deque and the broadcast list had none
   pub local_missed : (h : PoolShape) (i : ℕ) (x y : Seen) → NoTask x → NoTask y → Does acts.PopOwn x s t → Adds acts.PopOwn x s.trace t.trace → Does acts.TakeCast y t u → Adds acts.TakeCast y t.trace u.trace → So h i (Stay at.LocalPop) s Back u
@@ -102,12 +101,8 @@ module _ {X G O F : Type 0} (h : PoolShape) (i : ℕ) (m : Move) (s u v : Hands 
 module _ {X G O F : Type 0} (h : PoolShape) (i n : ℕ) (s t u : Hands X G O F) where
   -- the own deque is looked at before the push
   pub push_looked : (z : Bool) → Looks s t → Adds acts.LookOwn (answer z) s.trace t.trace → So h i (Stay (at.LookQueue (Detach 0 n))) s (Stay (at.PushJob (Detach 0 n) z)) t
-  push_looked true d a = by_act h i (Stay (at.LookQueue (Detach 0 n))) s (Stay (at.LookQueue (Detach 0 n))) s t Yes refl (so_far h i (Stay (at.LookQueue (Detach 0 n))) s) d a
-  push_looked false d a = by_act h i (Stay (at.LookQueue (Detach 0 n))) s (Stay (at.LookQueue (Detach 0 n))) s t No refl (so_far h i (Stay (at.LookQueue (Detach 0 n))) s) d a
-
-  -- the news of a pushed task, and the walk that it owes
-  pub push_told : (z : Bool) (k : ℕ) → Does (acts.News 0 z) (Wakes k) s t → Adds (acts.News 0 z) (Wakes k) s.trace t.trace → So h i (Stay (at.TellNews (Detach 0 n) z)) s (walk h (Worker 0 i) 0 k 0 Resume) t
-  push_told z k d e = by_act h i (Stay (at.TellNews (Detach 0 n) z)) s (Stay (at.TellNews (Detach 0 n) z)) s t (Wakes k) refl (so_far h i (Stay (at.TellNews (Detach 0 n) z)) s) d e
+  push_looked true d a = first_act h i (Stay (at.LookQueue (Detach 0 n))) s t Yes refl d a
+  push_looked false d a = first_act h i (Stay (at.LookQueue (Detach 0 n))) s t No refl d a
 
 module _ {X : Type 0} where
   not_empty : (xs ys : List (TaskOf X)) (t : TaskOf X) → xs ++ t ∷ ys ≡ [] → ⊥

@@ -1,16 +1,13 @@
 -- A broadcast into a scope, act by act, and the shares of its count.
-use Rattle.std.proofs.Common.{◌≡◌, ◌∙◌, ◌+◌, ◌++◌, [], ◌∷◌, List, Bool, true, false, true≢false, ℕ, Option, None, Some, refl, sym, subst, ap, inl, inr}
-use Rattle.std.specs.Prelude.{IsSome}
-use native.Mathlib.Numerals.{unary_clauses}
+use Rattle.std.proofs.Common.{◌≡◌, Bool, true, false, true≢false, ℕ, Option, None, Some, refl, sym, subst, ap, inl, inr}
 use Rattle.rayon_machine_places.specs.declared.act.Act.TheVariants as acts
-use Rattle.rayon_machine_places.specs.declared.act.Seen.TheVariants.{Done, Opened, Refused}
+use Rattle.rayon_machine_places.specs.declared.act.Seen.TheVariants.{Done, Refused, Yes}
 use Rattle.rayon_machine_places.specs.declared.place.Count.{Count}
 use Rattle.rayon_machine_places.specs.declared.place.Count.TheVariants.{OfCast, OfPool, OfScope}
 use Rattle.rayon_machine_places.specs.declared.place.Entry.{Entry}
 use Rattle.rayon_machine_places.specs.declared.place.Mark.TheVariants.{Counted, Numbered, Queued, Returned, Unnumbered}
 use Rattle.rayon_machine_places.specs.declared.place.Move.{Move}
 use Rattle.rayon_machine_places.specs.declared.place.Move.TheVariants.{Back, HandAllBack, Mark, Stay}
-use Rattle.rayon_machine_places.specs.declared.place.Party.{Party}
 use Rattle.rayon_machine_places.specs.declared.place.Party.TheVariants.{Caller, Worker}
 use Rattle.rayon_machine_places.specs.declared.place.Pieces.{Pieces}
 use Rattle.rayon_machine_places.specs.declared.place.Place.{Place}
@@ -21,21 +18,20 @@ use Rattle.rayon_machine_places.specs.Places.{call_all, end_cast, ends_count, is
 use Rattle.rayon_drive.specs.Paths.{place_of}
 use Rattle.rayon_drive.specs.Traces.{Adds}
 use Rattle.rayon_drive.proofs.Paths.{driven_from}
-use Rattle.rayon_tasks.specs.Tickets.{CoreOf, TicketOf}
-use Rattle.rayon_tasks.specs.Tasks.{TaskOf}
-use Rattle.rayon_drive.specs.declared.trace.Log.{Log}
+use Rattle.rayon_tasks.specs.Tickets.{CoreOf}
 use Rattle.rayon_performers.specs.Casts.{CastsInto, GoesNumbered, HandsBack, StayUnnumbered}
-use Rattle.rayon_shared.specs.Casts.{AreTasksOf, JustNumbered, TasksBy, cast_into, numbered_piece, numbered_pieces}
+use Rattle.rayon_shared.specs.Casts.{cast_into}
 use Rattle.rayon_performers.specs.Hands.{Hands, Does, LowersAll, RaisesAll, Same, counted}
 use Rattle.rayon_shared.specs.AtHand.{answer}
 use Rattle.rayon_performers.specs.Keeps.{told_at}
-use Rattle.rayon_shared.specs.Marks.{GivesShares, GivesUnits, IsCountOf, IsScope, MissesShare, MissesUnits, TakesShares, TakesUnits, scope_in}
+use Rattle.rayon_shared.specs.Marks.{GivesShares, GivesUnits, IsCountOf, MissesShare, MissesUnits, TakesShares, TakesUnits, scope_in}
 use Rattle.rayon_shared.specs.Seats.{Resting}
 use Rattle.rayon_performers.specs.Stands.{At, Hand, hand}
 use Rattle.rayon_shared.proofs.Shares.{of_scope}
-use Rattle.rayon_performers.proofs.Casts.{cast_ended, from_mark, handed_back}
+use Rattle.rayon_performers.proofs.Casts.{from_mark, handed_back}
 use Rattle.rayon_performers.proofs.Scopes.{replied}
-use Rattle.rayon_performers.proofs.Stretches.{So, so_far, by_act, and_then, of_worker}
+use Rattle.rayon_performers.proofs.Stretches.{So, first_act, by_act, and_then, of_worker}
+use Rattle.rayon_performers.proofs.Drives.{does_stays, drive_stays, seat_then, then_goes}
 
 -- the latch that is set for a count is no place at rest
 ends_goes : (k : Count) → is_rest (ends_count k) ≡ false
@@ -74,34 +70,15 @@ module _ {X G O F : Type 0} (c : Pieces) (s t : Hands X G O F) where
     units_lowered true a = subst (λ (k : Count). (t ≡ record (counted k t s) { trace = t.trace }) × LowersAll k c.workers true s t) (sym is) (left, a)
     units_lowered false a = subst (λ (k : Count). (t ≡ record (counted k t s) { trace = t.trace }) × LowersAll k c.workers false s t) (sym is) (left, a)
 
-module _ {X G O F : Type 0} (h : PoolShape) (i : ℕ) (e : Entry) (n : ℕ) (s t : Hands X G O F) where
-  -- a share is taken for each piece, or they were refused
-  pub into_raised : Does (acts.RaiseAll (cast_into e n)) Done s t → Adds (acts.RaiseAll (cast_into e n)) Done s.trace t.trace → So h i (Stay (at.RaiseForAll (cast_into e n))) s (Mark (at.OpenForAll (cast_into e n)) (cast_into e n) Counted) t
-  into_raised d a = by_act h i (Stay (at.RaiseForAll (cast_into e n))) s (Stay (at.RaiseForAll (cast_into e n))) s t Done refl (so_far h i (Stay (at.RaiseForAll (cast_into e n))) s) d a
-
-  pub into_not_raised : Does (acts.RaiseAll (cast_into e n)) Refused s t → Adds (acts.RaiseAll (cast_into e n)) Refused s.trace t.trace → So h i (Stay (at.RaiseForAll (cast_into e n))) s (HandAllBack (cast_into e n)) t
-  into_not_raised d a = by_act h i (Stay (at.RaiseForAll (cast_into e n))) s (Stay (at.RaiseForAll (cast_into e n))) s t Refused refl (so_far h i (Stay (at.RaiseForAll (cast_into e n))) s) d a
-
 module _ {X G O F : Type 0} (h : PoolShape) (i : ℕ) (c : Pieces) (s t u : Hands X G O F) where
-  -- the pieces get numbers of the scope's book, or there were none for them
-  pub slots_opened : (k : ℕ) → Same s t → Adds (acts.SlotAll c) (Opened k) s.trace t.trace → So h i (Mark (at.OpenForAll c) c Counted) s (Mark (at.PushForAll c) c (Numbered k)) t
-  slots_opened k d a = by_act h i (Mark (at.OpenForAll c) c Counted) s (Mark (at.OpenForAll c) c Counted) s t (Opened k) refl (so_far h i (Mark (at.OpenForAll c) c Counted) s) (d, tt) a
-
-  pub slots_refused : Same s t → Adds (acts.SlotAll c) Refused s.trace t.trace → So h i (Mark (at.OpenForAll c) c Counted) s (Stay (at.LowerForAll c)) t
-  slots_refused d a = by_act h i (Mark (at.OpenForAll c) c Counted) s (Mark (at.OpenForAll c) c Counted) s t Refused refl (so_far h i (Mark (at.OpenForAll c) c Counted) s) (d, tt) a
-
   -- they are queued, or were refused
   pub numbered_pushed : (k : ℕ) → Same s t → Adds (acts.PushCast c) Done s.trace t.trace → So h i (Mark (at.PushForAll c) c (Numbered k)) s (Mark (call_all h c) c Queued) t
-  numbered_pushed k d a = by_act h i (Mark (at.PushForAll c) c (Numbered k)) s (Mark (at.PushForAll c) c (Numbered k)) s t Done refl (so_far h i (Mark (at.PushForAll c) c (Numbered k)) s) (d, tt) a
+  numbered_pushed k d a = first_act h i (Mark (at.PushForAll c) c (Numbered k)) s t Done refl (d, tt) a
 
   pub numbered_not_pushed : (m : Move) (k : ℕ) (z : Option CoreOf) → IsCountOf z c.count → So h i m s (Mark (at.PushForAll c) c (Numbered k)) t → Same t u → Adds (acts.PushCast c) Refused t.trace u.trace → So h i m s (Stay (at.CloseForAll c)) u
   numbered_not_pushed m k z is b d a =
       let closes : end_cast c.count c ≡ at.CloseForAll c = of_scope (λ (q : Count). end_cast q c ≡ at.CloseForAll c) z c.count is (λ n o f. refl) in
       subst (λ (p : Place). So h i m s (Stay p) u) closes (by_act h i m s (Mark (at.PushForAll c) c (Numbered k)) t u Refused refl b (d, tt) a)
-
-  -- and their numbers are taken back
-  pub slots_undone : (m : Move) → So h i m s (Stay (at.CloseForAll c)) t → Same t u → Adds (acts.SlotUndoAll c) Done t.trace u.trace → So h i m s (Mark (at.LowerForAll c) c Unnumbered) u
-  slots_undone m b d a = by_act h i m s (Stay (at.CloseForAll c)) t u Done refl b (d, tt) a
 
 module _ {X G O F : Type 0} (c : Pieces) (s t : Hands X G O F) where
   -- shares are given back once the numbers are
@@ -110,7 +87,7 @@ module _ {X G O F : Type 0} (c : Pieces) (s t : Hands X G O F) where
   from_unnumbered (inr d) = inr (from_mark s.shape s.index (at.LowerForAll c) c Unnumbered s t refl d)
 
 -- a broadcast into a scope whose pieces have shares of its count
-module _ {X G O F : Type 0} (e : Entry) (n : ℕ) (s t u v : Hands X G O F) (shape : t.shape ≡ s.shape) (index : t.index ≡ s.index) (shape2 : u.shape ≡ s.shape) (index2 : u.index ≡ s.index) (d : Does (acts.RaiseAll (cast_into e n)) Done s t) (a : Adds (acts.RaiseAll (cast_into e n)) Done s.trace t.trace) where
+module _ {X G O F : Type 0} (e : Entry) (n : ℕ) (s t u v : Hands X G O F) (d : Does (acts.RaiseAll (cast_into e n)) Done s t) (a : Adds (acts.RaiseAll (cast_into e n)) Done s.trace t.trace) where
   -- the pieces got numbers and were queued, and each worker was called
   pub cast_numbered : (k : ℕ) → GoesNumbered (cast_into e n) k (Mark (at.OpenForAll (cast_into e n)) (cast_into e n) Counted) t u (Mark (call_all t.shape (cast_into e n)) (cast_into e n) Queued) → So u.shape u.index (Mark (call_all u.shape (cast_into e n)) (cast_into e n) Queued) u Back v → CastsInto (cast_into e n) k s v
   cast_numbered k g w =
@@ -120,10 +97,13 @@ module _ {X G O F : Type 0} (e : Entry) (n : ℕ) (s t u v : Hands X G O F) (sha
       let pushes = Mark (at.PushForAll c) c (Numbered k) in
       let calls = Mark (call_all s.shape c) c Queued in
       let x = g.0 in
-      let queued = subst (λ (z : ℕ). So s.shape z pushes x calls u) index (subst (λ (z : PoolShape). So z t.index pushes x (Mark (call_all z c) c Queued) u) shape g.2) in
-      let called = of_worker s u v calls Back shape2 index2 (subst (λ (z : PoolShape). So u.shape u.index (Mark (call_all z c) c Queued) u Back v) shape2 w) in (
+      let raised = does_stays (acts.RaiseAll c) Done s t d in
+      let numbered = seat_then s t x raised (drive_stays t.shape t.index opens t x pushes g.1) in
+      let same = seat_then s x u numbered (drive_stays t.shape t.index pushes x u (Mark (call_all t.shape c) c Queued) g.2) in
+      let queued = subst (λ (z : ℕ). So s.shape z pushes x calls u) raised.0 (subst (λ (z : PoolShape). So z t.index pushes x (Mark (call_all z c) c Queued) u) raised.1 g.2) in
+      let called = of_worker s u v calls Back same.1 same.0 (subst (λ (z : PoolShape). So u.shape u.index (Mark (call_all z c) c Queued) u Back v) same.1 w) in (
         x,
-        and_then s.shape s.index first s opens pushes t x (into_raised s.shape s.index e n s t d a) (of_worker s t x opens pushes shape index g.1),
+        then_goes first opens pushes s t x (first_act s.shape s.index (Stay (at.RaiseForAll (cast_into e n))) s t Done refl d a) g.1,
         and_then s.shape s.index pushes x calls Back u v queued called,
       )
 
@@ -134,15 +114,13 @@ module _ {X G O F : Type 0} (e : Entry) (n : ℕ) (s t u v : Hands X G O F) (sha
       let first = Stay (at.RaiseForAll c) in
       let opens = Mark (at.OpenForAll c) c Counted in
       let lowers = Stay (at.LowerForAll c) in
-      handed_back first lowers c s u v shape2 index2
-      (and_then s.shape s.index first s opens lowers t u (into_raised s.shape s.index e n s t d a) (of_worker s t u opens lowers shape index g)) w
+      handed_back first lowers c s u v (then_goes first opens lowers s t u (first_act s.shape s.index (Stay (at.RaiseForAll (cast_into e n))) s t Done refl d a) g) w
   cast_unnumbered (inr g) w =
       let c = cast_into e n in
       let first = Stay (at.RaiseForAll c) in
       let opens = Mark (at.OpenForAll c) c Counted in
       let lowers = Mark (at.LowerForAll c) c Unnumbered in
-      handed_back first lowers c s u v shape2 index2
-      (and_then s.shape s.index first s opens lowers t u (into_raised s.shape s.index e n s t d a) (of_worker s t u opens lowers shape index g)) (from_unnumbered c u v w)
+      handed_back first lowers c s u v (then_goes first opens lowers s t u (first_act s.shape s.index (Stay (at.RaiseForAll (cast_into e n))) s t Done refl d a) g) (from_unnumbered c u v w)
 
 -- the shares of the pieces were the last of the scope's count: its latch is set
 module _ {X G O F : Type 0} (c : Pieces) (s u : Hands X G O F) (is : IsCountOf (scope_in s.reply) c.count) (left : u ≡ record s { tally = u.tally; trace = u.trace }) (rests : Resting s.chair) where
@@ -156,7 +134,5 @@ module _ {X G O F : Type 0} (c : Pieces) (s u : Hands X G O F) (is : IsCountOf (
   pub shares_ended : (v : Hands X G O F) (p : Place) → p ≡ ends_count c.count → Does (acts.LowerAll c) (answer true) s u → Adds (acts.LowerAll c) (answer true) s.trace u.trace → So u.shape u.index (Stay p) u Back v → HandsBack (Stay (at.LowerForAll c)) c s v
   shares_ended v p e d a w =
       let ends = Mark (ends_count c.count) c Returned in
-      let shape : u.shape ≡ s.shape = ap (λ (z : Hands X G O F). z.shape) left in
-      let index : u.index ≡ s.index = ap (λ (z : Hands X G O F). z.index) left in
       let sets = from_mark u.shape u.index (ends_count c.count) c Returned u v (ends_goes c.count) (subst (λ (z : Place). So u.shape u.index (Stay z) u Back v) e w) in
-      inr (and_then s.shape s.index (Stay (at.LowerForAll c)) s ends Back u v (cast_ended s.shape s.index c s u d a) (of_worker s u v ends Back shape index sets))
+      inr (then_goes (Stay (at.LowerForAll c)) ends Back s u v (first_act s.shape s.index (Stay (at.LowerForAll c)) s u Yes refl d a) sets)

@@ -1,27 +1,9 @@
 -- A spawn's Raise, and a detached job's unit in the place of those of the worker's calls.
 use Rattle.std.proofs.Common.{◌≡◌, ℕ, refl, sym, subst}
-use Rattle.rayon_machine_places.specs.declared.act.Act.TheVariants as acts
-use Rattle.rayon_machine_places.specs.declared.act.Seen.TheVariants.{Done, Refused}
-use Rattle.rayon_machine_places.specs.declared.place.Count.TheVariants.{OfPool}
 use Rattle.rayon_machine_places.specs.declared.place.Move.{Move}
-use Rattle.rayon_machine_places.specs.declared.place.Move.TheVariants.{HandBack, Stay}
-use Rattle.rayon_machine_places.specs.declared.place.Place.TheVariants as at
-use Rattle.rayon_machine_places.specs.declared.place.Plan.TheVariants.{Detach}
-use Rattle.rayon_machine_places.specs.declared.shape.PoolShape.{PoolShape}
-use Rattle.rayon_drive.specs.Traces.{Adds}
-use Rattle.rayon_performers.specs.Hands.{Hands, Does}
+use Rattle.rayon_performers.specs.Hands.{Hands}
 use Rattle.rayon_performers.specs.Paths.{WorkerGoes}
 use Rattle.rayon_performers.specs.Spawns.{with_units}
-use Rattle.rayon_performers.proofs.Stretches.{So, so_far, by_act}
-
-module _ {X G O F : Type 0} (h : PoolShape) (i n : ℕ) (s t : Hands X G O F) where
-  -- a Raise leads to where the job is queued
-  pub raised : Does (acts.Raise (OfPool 0) n) Done s t → Adds (acts.Raise (OfPool 0) n) Done s.trace t.trace → So h i (Stay (at.RaiseCount (Detach 0 n))) s (Stay (at.LookQueue (Detach 0 n))) t
-  raised d e = by_act h i (Stay (at.RaiseCount (Detach 0 n))) s (Stay (at.RaiseCount (Detach 0 n))) s t Done refl (so_far h i (Stay (at.RaiseCount (Detach 0 n))) s) d e
-
-  -- one that is refused to where it is handed back
-  pub not_raised : Does (acts.Raise (OfPool 0) n) Refused s t → Adds (acts.Raise (OfPool 0) n) Refused s.trace t.trace → So h i (Stay (at.RaiseCount (Detach 0 n))) s (HandBack (Detach 0 n)) t
-  not_raised d e = by_act h i (Stay (at.RaiseCount (Detach 0 n))) s (Stay (at.RaiseCount (Detach 0 n))) s t Refused refl (so_far h i (Stay (at.RaiseCount (Detach 0 n))) s) d e
 
 module _ {X G O F : Type 0} where
   -- the units that stood for others are put back

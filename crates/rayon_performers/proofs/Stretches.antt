@@ -22,6 +22,10 @@ module _ {X G O F : Type 0} (h : PoolShape) (i : ℕ) (m : Move) (s : Hands X G 
   pub by_act : (n : Move) (t u : Hands X G O F) (x : Seen) → goes n ≡ true → So n t → Does (act_at (Worker 0 i) n) x t u → Adds (act_at (Worker 0 i) n) x t.trace u.trace → So (onward h (Worker 0 i) n x) u
   by_act n t u x go a d e = goes_on (λ (b : Hands X G O F) x y c. Does x y b c) (λ (b : Hands X G O F). b.trace) h (Worker 0 i) m s t n x u a go d e
 
+  -- a path of one act
+  pub first_act : (u : Hands X G O F) (x : Seen) → goes m ≡ true → Does (act_at (Worker 0 i) m) x s u → Adds (act_at (Worker 0 i) m) x s.trace u.trace → So (onward h (Worker 0 i) m x) u
+  first_act u x go a d = by_act m s u x go so_far a d
+
   pub and_then : (n l : Move) (t u : Hands X G O F) → So n t → WorkerGoesIn h i n t u l → So l u
   and_then n l t u a b = driven_then (λ (c : Hands X G O F) x y d. Does x y c d) (λ (c : Hands X G O F). c.trace) h (Worker 0 i) m s t n u l a b
 

@@ -26,7 +26,7 @@ use Rattle.rayon_performers.specs.Keeps.{does_at}
 use Rattle.rayon_shared.specs.Seats.{Resting}
 use Rattle.rayon_performers.specs.Stands.{Anyhow, At, Hand, Joins, Left, call_to, hand}
 use Rattle.rayon_performers.specs.Waits.{FoundSo, Rejoined, Waited, rejoins, units_after}
-use Rattle.rayon_performers.proofs.Stretches.{So, by_act, so_far}
+use Rattle.rayon_performers.proofs.Stretches.{So, first_act, by_act}
 
 module _ {X G O F : Type 0} where
   -- so ends a wait, and so a join's look, that began with so many units
@@ -82,7 +82,7 @@ stops_even h _ a = refl
 module _ {X G O F : Type 0} (h : PoolShape) (i : ℕ) (g : Target) (s t u : Hands X G O F) where
   -- a wait looks at its latch first
   pub working_probed : (z : Bool) → Does (acts.Probe (latch_of g)) (answer z) s t → Adds (acts.Probe (latch_of g)) (answer z) s.trace t.trace → So h i (Stay (at.ProbeWorking (fresh g))) s (next_of h (Worker 0 i) (at.ProbeWorking (fresh g)) (answer z)) t
-  working_probed z d e = by_act h i (Stay (at.ProbeWorking (fresh g))) s (Stay (at.ProbeWorking (fresh g))) s t (answer z) refl (so_far h i (Stay (at.ProbeWorking (fresh g))) s) d e
+  working_probed z d e = first_act h i (Stay (at.ProbeWorking (fresh g))) s t (answer z) refl d e
 
   -- and then into the own deque
   pub working_popped : (x : Seen) → So h i (Stay (at.ProbeWorking (fresh g))) s (Stay (at.PopWorking (fresh g))) t → Does acts.PopOwn x t u → Adds acts.PopOwn x t.trace u.trace → So h i (Stay (at.ProbeWorking (fresh g))) s (next_of h (Worker 0 i) (at.PopWorking (fresh g)) x) u

@@ -1,4 +1,4 @@
-use Rattle.std.proofs.Common.{◌≡◌, ◌+◌, ◌==◌, ap, rules, sym, subst, ◌∙◌}
+use Rattle.std.proofs.Common.{ap, refl, rules, subst, sym, ◌+◌, ◌==◌, ◌∙◌, ◌≡◌}
 use Rattle.rayon_atomics.specs.declared.views.Teller.{Teller}
 use Rattle.rayon_machine_places.specs.declared.place.Count.TheVariants.{OfPool}
 use Rattle.rayon_machine_places.specs.declared.place.Feeding.{Feeding}
@@ -8,17 +8,18 @@ use Rattle.rayon_machine_places.specs.declared.place.Move.TheVariants.{Stay, Bac
 use Rattle.rayon_machine_places.specs.declared.place.Place.TheVariants as at
 use Rattle.rayon_machine_places.specs.declared.place.Plan.TheVariants.{Feed}
 use Rattle.rayon_machine_places.specs.Places.{undo}
+use Rattle.rayon_machine_places.specs.declared.act.Seen.TheVariants.{Done, Refused}
 use Rattle.rayon_performers.specs.Fifos.{feeding}
 use Rattle.rayon_shared.specs.Marks.{TakesUnit}
-use Rattle.rayon_performers.proofs.Fifos.{fed_not_raised, fed_raised}
 use Rattle.rayon_performers.proofs.Recounts.{gave_back_at, missed_none}
-use Rattle.rayon_performers.proofs.Stretches.{So, and_then, of_worker}
+use Rattle.rayon_performers.proofs.Stretches.{So, first_act}
+use Rattle.rayon_performers.proofs.Drives.{then_goes}
 use Rattle.rayon_performers.proofs.bench.Bench.feed_job.Goals as goal
 
 pub returns-in-Err-clause-path : goal.returns-in-Err-clause-path
 returns-in-Err-clause-path g c =
     let s = c.args.self.now in
-    fed_not_raised s.shape s.index c.args.name c.args.share.number s c.raise.new.self s c.in-Err.ensures.does c.in-Err.ensures.adds
+    first_act s.shape s.index (Stay (at.RaiseCount (Feed (feeding c.args.name c.args.share.number)))) s c.raise.new.self Refused refl c.in-Err.ensures.does c.in-Err.ensures.adds
 
 pub returns-in-Err-clause-unit : goal.returns-in-Err-clause-unit
 returns-in-Err-clause-unit g c = missed_none (c.args.self.now.holds == 0) c.args.self.now.marks.count c.raise.new.self.marks.count c.in-Err.ensures.does.1
@@ -32,11 +33,7 @@ returns-in-Ok-clause-path g c =
     let w = c.feed.new.self in
     let first = Stay (at.RaiseCount (Feed (feeding n k))) in
     let adds = Stay (at.AddToFifo (feeding n k)) in
-    let shape : u.shape ≡ a.shape = search rules in
-    let index : u.index ≡ a.index = search rules in
-    and_then a.shape a.index first a adds Back u w
-    (fed_raised a.shape a.index n k a u a c.in_default.ensures.does c.in_default.ensures.adds)
-    (of_worker a u w adds Back shape index c.in-Ok.ensures.path)
+    then_goes first adds Back a u w (first_act a.shape a.index first a u Done refl c.in_default.ensures.does c.in_default.ensures.adds) c.in-Ok.ensures.path
 
 pub returns-in-Err-feed-clause-path : goal.returns-in-Err-feed-clause-path
 returns-in-Err-feed-clause-path g c =
@@ -50,16 +47,10 @@ returns-in-Err-feed-clause-path g c =
     let adds = Stay (at.AddToFifo (feeding n k)) in
     let undone = Stay (undo (Feed (feeding n k))) in
     let back = HandBack (Feed (feeding n k)) in
-    let shape : u.shape ≡ a.shape = search rules in
-    let index : u.index ≡ a.index = search rules in
     let lowers = subst (λ (f : Feeding). So w.shape w.index (Stay (at.LowerCount (OfPool 0) (OfJob n) (GiveBack (Feed f)))) w (HandBack (Feed f)) x) (c.feeding_of.ensures ∙ ap (λ m. feeding n m) c.number-token.ensures) c.lower_then.ensures.path in
-    let shape2 : w.shape ≡ a.shape = search rules in
-    let index2 : w.index ≡ a.index = search rules in
-    and_then a.shape a.index first a undone back w x
-    (and_then a.shape a.index first a adds undone u w
-    (fed_raised a.shape a.index n k a u a c.in_default.ensures.does c.in_default.ensures.adds)
-    (of_worker a u w adds undone shape index c.in-Err-feed.ensures.path))
-    (of_worker a w x undone back shape2 index2 lowers)
+    then_goes first undone back a w x
+    (then_goes first adds undone a u w (first_act a.shape a.index first a u Done refl c.in_default.ensures.does c.in_default.ensures.adds) c.in-Err-feed.ensures.path)
+    lowers
 
 pub returns-in-Ok-clause-unit : goal.returns-in-Ok-clause-unit
 returns-in-Ok-clause-unit g c =

@@ -11,8 +11,8 @@ use Rattle.rayon_performers.proofs.bench.Bench.find_work.Goals as goal
 pub perform-seen-requires : goal.perform-seen-requires
 perform-seen-requires g c = yield_needs c.args.self.now.index c.party-party.result c.loop.place c.act.result c.args.self.now c.loop.self c.party-party.ensures c.act.ensures c.loop.invariant.4
 
-pub returns-in-BeginTask-clause-path : goal.returns-in-BeginTask-clause-path
-returns-in-BeginTask-clause-path g c =
+pub returns-in-BeginTask : goal.returns-in-BeginTask
+returns-in-BeginTask g c =
     let h = c.args.self.now.shape in
     let i = c.args.self.now.index in
     let first = Stay at.YieldPop in
@@ -25,39 +25,13 @@ returns-in-BeginTask-clause-path g c =
     let k = c.in-BeginTask.field-0 in
     let stay = subst (λ (m : Move). So h i first s m u × Looking s u m) c.in-Stay.is one in
     let found = subst (λ (y : Place). So h i first s (Stay y) u × Looking s u (Stay y)) c.in-BeginTask.is stay in
-    given h i first s u c.take_task.new.self k c.take_task.result c.take_task.ensures.given c.take_task.ensures.left found.1.0 found.0
-
-pub returns-in-BeginTask-clause-found : goal.returns-in-BeginTask-clause-found
-returns-in-BeginTask-clause-found g c =
-    let h = c.args.self.now.shape in
-    let i = c.args.self.now.index in
-    let first = Stay at.YieldPop in
-    let s = c.args.self.now in
-    let u = c.perform-seen.new.self in
-    let x = c.perform-seen.result in
-    let n = c.next-in-loop.result in
-    let next = subst (λ v. n ≡ next_of v.shape c.party-party.result c.loop.place x) c.self.view_is c.next-in-loop.ensures in
-    let one = one_more h i c.party-party.result first s c.loop.self u c.loop.place x c.act.result n c.party-party.ensures c.act.ensures next c.loop.invariant.2 c.loop.invariant.3 c.loop.invariant.4 c.perform-seen.ensures.performed c.perform-seen.ensures.adds in
-    let k = c.in-BeginTask.field-0 in
-    let stay = subst (λ (m : Move). So h i first s m u × Looking s u m) c.in-Stay.is one in
-    let found = subst (λ (y : Place). So h i first s (Stay y) u × Looking s u (Stay y)) c.in-BeginTask.is stay in
-    given_found s u c.take_task.new.self k c.take_task.result c.take_task.ensures.given c.take_task.ensures.left found.1
-
-pub returns-in-BeginTask-clause-left : goal.returns-in-BeginTask-clause-left
-returns-in-BeginTask-clause-left g c =
-    let h = c.args.self.now.shape in
-    let i = c.args.self.now.index in
-    let first = Stay at.YieldPop in
-    let s = c.args.self.now in
-    let u = c.perform-seen.new.self in
-    let x = c.perform-seen.result in
-    let n = c.next-in-loop.result in
-    let next = subst (λ v. n ≡ next_of v.shape c.party-party.result c.loop.place x) c.self.view_is c.next-in-loop.ensures in
-    let one = one_more h i c.party-party.result first s c.loop.self u c.loop.place x c.act.result n c.party-party.ensures c.act.ensures next c.loop.invariant.2 c.loop.invariant.3 c.loop.invariant.4 c.perform-seen.ensures.performed c.perform-seen.ensures.adds in
-    let k = c.in-BeginTask.field-0 in
-    let stay = subst (λ (m : Move). So h i first s m u × Looking s u m) c.in-Stay.is one in
-    let found = subst (λ (y : Place). So h i first s (Stay y) u × Looking s u (Stay y)) c.in-BeginTask.is stay in
-    given_left s u c.take_task.new.self k c.take_task.result c.take_task.ensures.given c.take_task.ensures.left found.1
+    let v = c.take_task.new.self in
+    let r = c.take_task.result in
+    record {
+      path = given h i first s u v k r c.take_task.ensures.given c.take_task.ensures.left found.1.0 found.0;
+      found = given_found s u v k r c.take_task.ensures.given c.take_task.ensures.left found.1;
+      left = given_left s u v k r c.take_task.ensures.given c.take_task.ensures.left found.1;
+    }
 
 pub loop-preserved : goal.loop-preserved
 loop-preserved g c =

@@ -4,13 +4,13 @@ use Rattle.rayon_machine_places.specs.declared.act.Seen.TheVariants.{Yes, No}
 use Rattle.rayon_machine_places.specs.declared.place.Move.TheVariants.{Enter, Stay}
 use Rattle.rayon_machine_places.specs.declared.place.Party.TheVariants.{Worker}
 use Rattle.rayon_machine_places.specs.declared.place.Place.TheVariants as at
-use Rattle.rayon_machine_places.specs.Places.{fresh, latch_of, next_of}
+use Rattle.rayon_machine_places.specs.Places.{fresh, next_of}
 use Rattle.rayon_drive.specs.Traces.{Adds}
 use Rattle.rayon_performers.specs.Hands.{Does}
 use Rattle.rayon_performers.specs.Stands.{Anyhow, At}
-use Rattle.rayon_performers.proofs.Drives.{does_stays, seat_then}
-use Rattle.rayon_performers.proofs.Stretches.{So, and_then}
+use Rattle.rayon_performers.proofs.Stretches.{So}
 use Rattle.rayon_performers.proofs.Waits.{popped_stands, probed_stands, working_popped, working_probed}
+use Rattle.rayon_performers.proofs.Drives.{then_at}
 use Rattle.rayon_performers.proofs.bench.Bench.first_looks.Goals as goal
 
 pub go_on_waiting-requires : goal.go_on_waiting-requires
@@ -44,12 +44,8 @@ returns-then-probe-clause-path g c =
     let r = c.go_on_waiting.result in
     let does = subst (λ l. Does (acts.Probe l) Yes s t) c.latch.ensures c.if-probe.ensures.does in
     let adds = subst (λ l. Adds (acts.Probe l) Yes s.trace t.trace) c.latch.ensures c.if-probe.ensures.adds in
-    let same = does_stays (acts.Probe (latch_of o)) Yes s t does in
     let goes = subst (λ w. So t.shape t.index (next_of t.shape (Worker 0 t.index) (at.ProbeWorking w) Yes) t r v) c.wait-wait.ensures c.go_on_waiting.ensures.path in
-    and_then h i (Stay (at.ProbeWorking (fresh o))) s (next_of h (Worker 0 i) (at.ProbeWorking (fresh o)) Yes) r t v
-    (working_probed h i o s t t true does adds)
-    (subst (λ z. So z i (next_of z (Worker 0 i) (at.ProbeWorking (fresh o)) Yes) t r v) same.1
-    (subst (λ z. So t.shape z (next_of t.shape (Worker 0 z) (at.ProbeWorking (fresh o)) Yes) t r v) same.0 goes))
+    then_at (Stay (at.ProbeWorking (fresh o))) (λ k j. next_of k (Worker 0 j) (at.ProbeWorking (fresh o)) Yes) r s t v (working_probed h i o s t t true does adds) goes
 
 pub returns-clause-path : goal.returns-clause-path
 returns-clause-path g c =
@@ -64,12 +60,9 @@ returns-clause-path g c =
     let r = c.go_on_waiting-2.result in
     let does = subst (λ l. Does (acts.Probe l) No s t) c.latch.ensures c.if-probe.ensures.does in
     let adds = subst (λ l. Adds (acts.Probe l) No s.trace t.trace) c.latch.ensures c.if-probe.ensures.adds in
-    let same = seat_then s t u (does_stays (acts.Probe (latch_of o)) No s t does) (does_stays acts.PopOwn x t u c.pop_own-popped.ensures.does) in
     let goes = subst (λ w. So u.shape u.index (next_of u.shape (Worker 0 u.index) (at.PopWorking w) x) u r v) c.wait-wait.ensures c.go_on_waiting-2.ensures.path in
-    and_then h i (Stay (at.ProbeWorking (fresh o))) s (next_of h (Worker 0 i) (at.PopWorking (fresh o)) x) r u v
-    (working_popped h i o s t u x (working_probed h i o s t t false does adds) c.pop_own-popped.ensures.does c.pop_own-popped.ensures.adds)
-    (subst (λ z. So z i (next_of z (Worker 0 i) (at.PopWorking (fresh o)) x) u r v) same.1
-    (subst (λ z. So u.shape z (next_of u.shape (Worker 0 z) (at.PopWorking (fresh o)) x) u r v) same.0 goes))
+    then_at (Stay (at.ProbeWorking (fresh o))) (λ k j. next_of k (Worker 0 j) (at.PopWorking (fresh o)) x) r s u v
+    (working_popped h i o s t u x (working_probed h i o s t t false does adds) c.pop_own-popped.ensures.does c.pop_own-popped.ensures.adds) goes
 
 pub returns-in-Task-clause-path : goal.returns-in-Task-clause-path
 returns-in-Task-clause-path g c =

@@ -1,8 +1,10 @@
 use Rattle.std.proofs.Common.{◌≡◌, inl, refl}
-use Rattle.rayon_machine_places.specs.declared.place.Move.TheVariants.{Back}
+use Rattle.rayon_machine_places.specs.declared.place.Move.TheVariants.{Back, Stay}
+use Rattle.rayon_machine_places.specs.declared.place.Place.TheVariants as at
+use Rattle.rayon_machine_places.specs.declared.act.Seen.TheVariants.{No}
 use Rattle.rayon_performers.specs.Stands.{Anyhow, hand}
-use Rattle.rayon_performers.proofs.Casts.{cast_lowered}
 use Rattle.rayon_performers.proofs.ScopeCasts.{scope_ends, shares_ended}
+use Rattle.rayon_performers.proofs.Stretches.{first_act}
 use Rattle.rayon_performers.proofs.bench.Bench.hand_shares_back.Goals as goal
 
 pub finish_at-requires-clause-hands : goal.finish_at-requires-clause-hands
@@ -23,4 +25,4 @@ returns-then-lower_shares-clause-path g c =
 pub returns-else-lower_shares-clause-path : goal.returns-else-lower_shares-clause-path
 returns-else-lower_shares-clause-path g c =
     let s = c.args.self.now in
-    inl (cast_lowered s.shape s.index c.args.pieces s c.lower_shares.new.self c.if-lower_shares.ensures.does c.if-lower_shares.ensures.adds)
+    inl (first_act s.shape s.index (Stay (at.LowerForAll c.args.pieces)) s c.lower_shares.new.self No refl c.if-lower_shares.ensures.does c.if-lower_shares.ensures.adds)

@@ -6,7 +6,7 @@ use Rattle.rayon_machine_places.specs.declared.place.Share.TheVariants.{OfJob}
 use Rattle.rayon_machine_places.specs.declared.place.Then.TheVariants.{Resume}
 use Rattle.rayon_machine_places.specs.declared.act.Seen.TheVariants.{Yes, No}
 use Rattle.rayon_machine_places.specs.Places.{set_call}
-use Rattle.rayon_performers.proofs.Stretches.{So, so_far, by_act, and_then}
+use Rattle.rayon_performers.proofs.Stretches.{So, first_act, and_then}
 use Rattle.rayon_performers.proofs.bench.Bench.lower_broadcast.Goals as goal
 
 pub returns-then-lower_part-clause-path : goal.returns-then-lower_part-clause-path
@@ -17,7 +17,7 @@ returns-then-lower_part-clause-path g c =
     let first = Stay (at.LowerCount (OfCast c.args.call c.args.owner) (OfJob c.args.name) Resume) in
     let sets = Stay (set_call c.args.call c.args.owner Resume) in
     and_then h i first s sets Back c.lower_part.new.self c.finish_from.new.self
-    (by_act h i first s first s c.lower_part.new.self Yes refl (so_far h i first s) c.if-lower_part.ensures.does c.if-lower_part.ensures.adds)
+    (first_act h i first s c.lower_part.new.self Yes refl c.if-lower_part.ensures.does c.if-lower_part.ensures.adds)
     (subst (λ v. So v.shape v.index sets c.lower_part.new.self Back c.finish_from.new.self) c.self.view_is c.finish_from.ensures.path)
 
 pub returns-else-lower_part-clause-path : goal.returns-else-lower_part-clause-path
@@ -26,4 +26,4 @@ returns-else-lower_part-clause-path g c =
     let h = s.shape in
     let i = s.index in
     let first = Stay (at.LowerCount (OfCast c.args.call c.args.owner) (OfJob c.args.name) Resume) in
-    by_act h i first s first s c.lower_part.new.self No refl (so_far h i first s) c.if-lower_part.ensures.does c.if-lower_part.ensures.adds
+    first_act h i first s c.lower_part.new.self No refl c.if-lower_part.ensures.does c.if-lower_part.ensures.adds

@@ -7,7 +7,7 @@ use Rattle.rayon_machine_places.specs.declared.place.Place.TheVariants as at
 use Rattle.rayon_machine_places.specs.declared.place.Share.TheVariants.{OfJob}
 use Rattle.rayon_machine_places.specs.declared.act.Seen.TheVariants.{Yes, No}
 use Rattle.rayon_machine_places.specs.Places.{finish, settle}
-use Rattle.rayon_performers.proofs.Stretches.{So, so_far, by_act, and_then}
+use Rattle.rayon_performers.proofs.Stretches.{So, first_act, and_then}
 use Rattle.rayon_performers.specs.Keeps.{settle_at}
 use Rattle.rayon_shared.specs.Marks.{GivesUnit}
 use Rattle.rayon_performers.specs.Stands.{Anyhow, At, EndsIn, hand}
@@ -21,7 +21,7 @@ returns-then-lower-clause-path g c =
     let first = Stay (at.LowerCount (OfPool 0) (OfJob c.args.job) c.args.then) in
     let s = c.args.self.now in
     and_then h i first s (settle h (Worker 0 i) 0 0 c.args.then) (finish (Worker 0 i) c.args.then) c.lower.new.self c.end_count.new.self
-    (by_act h i first s first s c.lower.new.self Yes refl (so_far h i first s) c.if-lower.ensures.does c.if-lower.ensures.adds)
+    (first_act h i first s c.lower.new.self Yes refl c.if-lower.ensures.does c.if-lower.ensures.adds)
     (subst (λ v. So v.shape v.index (settle v.shape (Worker 0 v.index) 0 0 c.args.then) c.lower.new.self (finish (Worker 0 v.index) c.args.then) c.end_count.new.self) c.if-lower.ensures.left c.end_count.ensures.path)
 
 pub returns-else-lower-clause-path : goal.returns-else-lower-clause-path
@@ -30,7 +30,7 @@ returns-else-lower-clause-path g c =
     let i = c.args.self.now.index in
     let first = Stay (at.LowerCount (OfPool 0) (OfJob c.args.job) c.args.then) in
     let s = c.args.self.now in
-    by_act h i first s first s c.lower.new.self No refl (so_far h i first s) c.if-lower.ensures.does c.if-lower.ensures.adds
+    first_act h i first s c.lower.new.self No refl c.if-lower.ensures.does c.if-lower.ensures.adds
 
 pub end_count-requires-clause-hands : goal.end_count-requires-clause-hands
 end_count-requires-clause-hands g c =

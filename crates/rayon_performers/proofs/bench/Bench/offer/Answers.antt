@@ -1,4 +1,4 @@
-use Rattle.std.proofs.Common.{◌≡◌, ◌+◌, ◌==◌, refl, rules, subst, sym, ap, ◌∙◌}
+use Rattle.std.proofs.Common.{◌≡◌, ◌+◌, ◌==◌, refl, rules, subst, sym}
 use Rattle.rayon_atomics.specs.declared.views.Teller.{Teller}
 use Rattle.rayon_machine_places.specs.declared.place.Move.TheVariants.{Stay, StartRun, HandBack}
 use Rattle.rayon_machine_places.specs.declared.place.Place.TheVariants as at
@@ -6,9 +6,10 @@ use Rattle.rayon_machine_places.specs.declared.act.Seen.TheVariants.{Done, Refus
 use Rattle.rayon_machine_places.specs.Places.{undo}
 use Rattle.rayon_performers.specs.Calls.{own_call, own_join}
 use Rattle.rayon_shared.specs.Marks.{TakesUnit}
-use Rattle.rayon_performers.proofs.Offers.{join_grown, join_not_grown, join_looked, join_pushed, join_not_pushed}
+use Rattle.rayon_performers.proofs.Offers.{join_looked}
 use Rattle.rayon_performers.proofs.Recounts.{gave_back_at, missed_none}
-use Rattle.rayon_performers.proofs.Stretches.{so_far, by_act, and_then, of_worker}
+use Rattle.rayon_performers.proofs.Stretches.{by_act, first_act}
+use Rattle.rayon_performers.proofs.Drives.{then_goes}
 use Rattle.rayon_performers.proofs.bench.Bench.offer.Goals as goal
 
 pub returns-in-Err-clause-path : goal.returns-in-Err-clause-path
@@ -18,7 +19,7 @@ returns-in-Err-clause-path g c =
     let n = c.args.name in
     let first = Stay (at.RaiseCount (own_join n)) in
     let s = c.args.self.now in
-    by_act h i first s first s c.raise.new.self Refused refl (so_far h i first s) c.in-Err.ensures.does c.in-Err.ensures.adds
+    first_act h i first s c.raise.new.self Refused refl c.in-Err.ensures.does c.in-Err.ensures.adds
 
 pub returns-in_default-grow-clause-path : goal.returns-in_default-grow-clause-path
 returns-in_default-grow-clause-path g c =
@@ -28,11 +29,11 @@ returns-in_default-grow-clause-path g c =
     let first = Stay (at.RaiseCount (own_join n)) in
     let s = c.args.self.now in
     let t = c.raise.new.self in
-    let raised = by_act h i first s first s t Done refl (so_far h i first s) c.in_default.ensures.does c.in_default.ensures.adds in
+    let raised = first_act h i first s t Done refl c.in_default.ensures.does c.in_default.ensures.adds in
     let u = c.grow.new.self in
-    and_then h i first s (Stay (undo (own_join n))) (HandBack (own_join n)) u c.give_join_back.new.self
-    (join_not_grown h i n first s t u raised c.in_default-grow.ensures.same c.in_default-grow.ensures.grown)
-    (of_worker s u c.give_join_back.new.self (Stay (undo (own_join n))) (HandBack (own_join n)) (ap (λ z. z.shape) c.in_default-grow.ensures.same ∙ ap (λ z. z.shape) c.in_default.ensures.does.0) (ap (λ z. z.index) c.in_default-grow.ensures.same ∙ ap (λ z. z.index) c.in_default.ensures.does.0) c.give_join_back.ensures.path)
+    then_goes first (Stay (undo (own_join n))) (HandBack (own_join n)) s u c.give_join_back.new.self
+    (by_act h i first s (Stay (at.GrowCall (own_join n))) t u Refused refl raised (c.in_default-grow.ensures.same, tt) c.in_default-grow.ensures.grown)
+    c.give_join_back.ensures.path
 
 pub returns-in-Err-push_own-clause-path : goal.returns-in-Err-push_own-clause-path
 returns-in-Err-push_own-clause-path g c =
@@ -42,15 +43,15 @@ returns-in-Err-push_own-clause-path g c =
     let first = Stay (at.RaiseCount (own_join n)) in
     let s = c.args.self.now in
     let t = c.raise.new.self in
-    let raised = by_act h i first s first s t Done refl (so_far h i first s) c.in_default.ensures.does c.in_default.ensures.adds in
+    let raised = first_act h i first s t Done refl c.in_default.ensures.does c.in_default.ensures.adds in
     let u = c.grow.new.self in
     let v = c.look_own-was_empty.new.self in
-    let grown = join_grown h i n first s t u raised c.in-Some.ensures.same c.in-Some.ensures.grown.0 in
+    let grown = by_act h i first s (Stay (at.GrowCall (own_join n))) t u Done refl raised (c.in-Some.ensures.same, tt) c.in-Some.ensures.grown.0 in
     let looked = join_looked h i n first s u v c.look_own-was_empty.result grown c.look_own-was_empty.ensures.does c.look_own-was_empty.ensures.adds in
     let w = c.push_own.new.self in
-    and_then h i first s (Stay (undo (own_join n))) (HandBack (own_join n)) w c.give_join_back-in-Err-push_own.new.self
-    (join_not_pushed h i n first s v w c.look_own-was_empty.result looked (c.in-Err-push_own.ensures.same.1, (c.in-Err-push_own.ensures.same.0, c.in-Err-push_own.ensures.pushed.1)) c.in-Err-push_own.ensures.pushed.2)
-    (of_worker s w c.give_join_back-in-Err-push_own.new.self (Stay (undo (own_join n))) (HandBack (own_join n)) (ap (λ z. z.shape) c.in-Err-push_own.ensures.same.1 ∙ ap (λ z. z.shape) c.look_own-was_empty.ensures.does.0 ∙ ap (λ z. z.shape) c.in-Some.ensures.same ∙ ap (λ z. z.shape) c.in_default.ensures.does.0) (ap (λ z. z.index) c.in-Err-push_own.ensures.same.1 ∙ ap (λ z. z.index) c.look_own-was_empty.ensures.does.0 ∙ ap (λ z. z.index) c.in-Some.ensures.same ∙ ap (λ z. z.index) c.in_default.ensures.does.0) c.give_join_back-in-Err-push_own.ensures.path)
+    then_goes first (Stay (undo (own_join n))) (HandBack (own_join n)) s w c.give_join_back-in-Err-push_own.new.self
+    (by_act h i first s (Stay (at.PushJob (own_join n) c.look_own-was_empty.result)) v w Refused refl looked (c.in-Err-push_own.ensures.same.1, (c.in-Err-push_own.ensures.same.0, c.in-Err-push_own.ensures.pushed.1)) c.in-Err-push_own.ensures.pushed.2)
+    c.give_join_back-in-Err-push_own.ensures.path
 
 pub returns-clause-path : goal.returns-clause-path
 returns-clause-path g c =
@@ -60,15 +61,15 @@ returns-clause-path g c =
     let first = Stay (at.RaiseCount (own_join n)) in
     let s = c.args.self.now in
     let t = c.raise.new.self in
-    let raised = by_act h i first s first s t Done refl (so_far h i first s) c.in_default.ensures.does c.in_default.ensures.adds in
+    let raised = first_act h i first s t Done refl c.in_default.ensures.does c.in_default.ensures.adds in
     let u = c.grow.new.self in
     let v = c.look_own-was_empty.new.self in
-    let grown = join_grown h i n first s t u raised c.in-Some.ensures.same c.in-Some.ensures.grown.0 in
+    let grown = by_act h i first s (Stay (at.GrowCall (own_join n))) t u Done refl raised (c.in-Some.ensures.same, tt) c.in-Some.ensures.grown.0 in
     let looked = join_looked h i n first s u v c.look_own-was_empty.result grown c.look_own-was_empty.ensures.does c.look_own-was_empty.ensures.adds in
     let w = c.push_own.new.self in
-    and_then h i first s (Stay (at.TellNews (own_join n) c.look_own-was_empty.result)) (StartRun (at.FirstSide (own_call n) n) n) w c.tell_news.new.self
-    (join_pushed h i n first s v w c.look_own-was_empty.result looked (c.in_default-push_own.ensures.same.1, (c.task_of_job.result, c.in_default-push_own.ensures.pushed.0, c.in_default-push_own.ensures.same.0)) c.in_default-push_own.ensures.pushed.1)
-    (of_worker s w c.tell_news.new.self (Stay (at.TellNews (own_join n) c.look_own-was_empty.result)) (StartRun (at.FirstSide (own_call n) n) n) (ap (λ z. z.shape) c.in_default-push_own.ensures.same.1 ∙ ap (λ z. z.shape) c.look_own-was_empty.ensures.does.0 ∙ ap (λ z. z.shape) c.in-Some.ensures.same ∙ ap (λ z. z.shape) c.in_default.ensures.does.0) (ap (λ z. z.index) c.in_default-push_own.ensures.same.1 ∙ ap (λ z. z.index) c.look_own-was_empty.ensures.does.0 ∙ ap (λ z. z.index) c.in-Some.ensures.same ∙ ap (λ z. z.index) c.in_default.ensures.does.0) c.tell_news.ensures.path)
+    then_goes first (Stay (at.TellNews (own_join n) c.look_own-was_empty.result)) (StartRun (at.FirstSide (own_call n) n) n) s w c.tell_news.new.self
+    (by_act h i first s (Stay (at.PushJob (own_join n) c.look_own-was_empty.result)) v w Done refl looked (c.in_default-push_own.ensures.same.1, (c.task_of_job.result, c.in_default-push_own.ensures.pushed.0, c.in_default-push_own.ensures.same.0)) c.in_default-push_own.ensures.pushed.1)
+    c.tell_news.ensures.path
 
 pub returns-in-Err-clause-unit : goal.returns-in-Err-clause-unit
 returns-in-Err-clause-unit g c = missed_none (c.args.self.now.holds == 0) c.args.self.now.marks.count c.raise.new.self.marks.count c.in-Err.ensures.does.1

@@ -1,4 +1,4 @@
-use Rattle.std.proofs.Common.{◌≡◌, ◌+◌, ◌==◌, rules, subst}
+use Rattle.std.proofs.Common.{refl, rules, subst, ◌+◌, ◌≡◌}
 use Rattle.rayon_machine_places.specs.declared.act.Act.TheVariants as acts
 use Rattle.rayon_machine_places.specs.declared.act.Seen.TheVariants.{Done, Refused}
 use Rattle.rayon_machine_places.specs.declared.place.Count.TheVariants.{OfPool}
@@ -12,16 +12,16 @@ use Rattle.rayon_machine_places.specs.Places.{undo}
 use Rattle.rayon_drive.specs.Traces.{Adds}
 use Rattle.rayon_performers.specs.Broadcasts.{gathering}
 use Rattle.rayon_performers.specs.Paths.{WorkerGoes}
-use Rattle.rayon_performers.proofs.Broadcasts.{cast_grown, cast_not_grown, gather_not_raised, gather_raised, pieces_dealt, pieces_not_dealt}
 use Rattle.rayon_performers.proofs.Recounts.{gave_back_at}
-use Rattle.rayon_performers.proofs.Stretches.{and_then, of_worker}
+use Rattle.rayon_performers.proofs.Stretches.{by_act, first_act}
+use Rattle.rayon_performers.proofs.Drives.{then_goes}
 use Rattle.rayon_performers.proofs.bench.Bench.open_broadcast.Goals as goal
 
 pub returns-in-Err-clause-path : goal.returns-in-Err-clause-path
 returns-in-Err-clause-path g c =
     let s = c.args.self.now in
     let t = c.raise.new.self in
-    gather_not_raised s.shape s.index c.args.name c.args.first s.shape.workers s t t c.in-Err.ensures.does c.in-Err.ensures.adds
+    first_act s.shape s.index (Stay (at.RaiseCount (Gather (gathering s.index c.args.name c.args.first s.shape.workers)))) s t Refused refl c.in-Err.ensures.does c.in-Err.ensures.adds
 
 pub returns-in-Err-grow_broadcast-clause-path : goal.returns-in-Err-grow_broadcast-clause-path
 returns-in-Err-grow_broadcast-clause-path g c =
@@ -37,12 +37,10 @@ returns-in-Err-grow_broadcast-clause-path g c =
     let first = Stay (at.RaiseCount (Gather k)) in
     let undone = Stay (undo (Gather k)) in
     let back = HandBack (Gather k) in
-    let shape : u.shape ≡ s.shape = search rules in
-    let index : u.index ≡ s.index = search rules in
     let lowers = subst (λ (z : Gathering). WorkerGoes (Stay (at.LowerCount (OfPool 0) (OfJob n) (GiveBack (Gather z)))) u v (HandBack (Gather z))) c.gathering-gathering.ensures c.lower_then.ensures.path in
-    and_then h i first s undone back u v
-    (cast_not_grown h i n a h.workers s t u first (gather_raised h i n a h.workers s t u c.in_default.ensures.does c.in_default.ensures.adds) c.in-Err-grow_broadcast.ensures.same c.in-Err-grow_broadcast.ensures.adds)
-    (of_worker s u v undone back shape index lowers)
+    then_goes first undone back s u v
+    (by_act h i first s (Stay (at.GrowCast k)) t u Refused refl (first_act h i first s t Done refl c.in_default.ensures.does c.in_default.ensures.adds) (c.in-Err-grow_broadcast.ensures.same, tt) c.in-Err-grow_broadcast.ensures.adds)
+    lowers
 
 pub returns-in-Ok-push_cast-clause-path : goal.returns-in-Ok-push_cast-clause-path
 returns-in-Ok-push_cast-clause-path g c =
@@ -57,9 +55,9 @@ returns-in-Ok-push_cast-clause-path g c =
     let k = gathering i n a h.workers in
     let first = Stay (at.RaiseCount (Gather k)) in
     let pushed = subst (λ (z : Gathering). Adds (acts.PushCast z.pieces) Done u.trace v.trace) c.gathering-gathering.ensures c.in-Ok-push_cast.ensures.adds in
-    pieces_dealt h i n a h.workers s u v first
-    (cast_grown h i n a h.workers s t u first (gather_raised h i n a h.workers s t u c.in_default.ensures.does c.in_default.ensures.adds) c.in-Ok.ensures.same c.in-Ok.ensures.adds)
-    c.push_cast.ensures.same pushed
+    by_act h i first s (Stay (at.DealPieces k)) u v Done refl
+    (by_act h i first s (Stay (at.GrowCast k)) t u Done refl (first_act h i first s t Done refl c.in_default.ensures.does c.in_default.ensures.adds) (c.in-Ok.ensures.same, tt) c.in-Ok.ensures.adds)
+    (c.push_cast.ensures.same, tt) pushed
 
 pub returns-in-Err-push_cast-clause-path : goal.returns-in-Err-push_cast-clause-path
 returns-in-Err-push_cast-clause-path g c =
@@ -76,15 +74,13 @@ returns-in-Err-push_cast-clause-path g c =
     let first = Stay (at.RaiseCount (Gather k)) in
     let undone = Stay (undo (Gather k)) in
     let back = HandBack (Gather k) in
-    let shape : v.shape ≡ s.shape = search rules in
-    let index : v.index ≡ s.index = search rules in
     let pushed = subst (λ (z : Gathering). Adds (acts.PushCast z.pieces) Refused u.trace v.trace) c.gathering-gathering.ensures c.in-Err-push_cast.ensures.adds in
     let lowers = subst (λ (z : Gathering). WorkerGoes (Stay (at.LowerCount (OfPool 0) (OfJob n) (GiveBack (Gather z)))) v w (HandBack (Gather z))) c.gathering-gathering.ensures c.lower_then-in-Err-push_cast.ensures.path in
-    and_then h i first s undone back v w
-    (pieces_not_dealt h i n a h.workers s u v first
-    (cast_grown h i n a h.workers s t u first (gather_raised h i n a h.workers s t u c.in_default.ensures.does c.in_default.ensures.adds) c.in-Ok.ensures.same c.in-Ok.ensures.adds)
-    c.push_cast.ensures.same pushed)
-    (of_worker s v w undone back shape index lowers)
+    then_goes first undone back s v w
+    (by_act h i first s (Stay (at.DealPieces k)) u v Refused refl
+    (by_act h i first s (Stay (at.GrowCast k)) t u Done refl (first_act h i first s t Done refl c.in_default.ensures.does c.in_default.ensures.adds) (c.in-Ok.ensures.same, tt) c.in-Ok.ensures.adds)
+    (c.push_cast.ensures.same, tt) pushed)
+    lowers
 
 pub returns-in-Err-push_cast-clause-unit : goal.returns-in-Err-push_cast-clause-unit
 returns-in-Err-push_cast-clause-unit g c =

@@ -1,19 +1,20 @@
-use Rattle.std.proofs.Common.{◌≡◌, ◌+◌, ◌==◌, rules}
+use Rattle.std.proofs.Common.{refl, rules, ◌+◌, ◌==◌, ◌≡◌}
 use Rattle.rayon_machine_places.specs.declared.place.Move.TheVariants.{Stay, HandBack}
 use Rattle.rayon_machine_places.specs.declared.place.Place.TheVariants as at
 use Rattle.rayon_machine_places.specs.declared.place.Plan.TheVariants.{Open}
 use Rattle.rayon_machine_places.specs.Places.{undo}
+use Rattle.rayon_machine_places.specs.declared.act.Seen.TheVariants.{Done, Refused}
 use Rattle.rayon_performers.specs.Calls.{own_call}
 use Rattle.rayon_performers.proofs.Recounts.{gave_back_at, missed_none}
-use Rattle.rayon_performers.proofs.Scopes.{not_opened, opened, scope_grown, scope_not_grown}
-use Rattle.rayon_performers.proofs.Stretches.{and_then, of_worker}
+use Rattle.rayon_performers.proofs.Stretches.{by_act, first_act}
+use Rattle.rayon_performers.proofs.Drives.{then_goes}
 use Rattle.rayon_performers.proofs.bench.Bench.open_scope.Goals as goal
 
 pub returns-in-Err-clause-path : goal.returns-in-Err-clause-path
 returns-in-Err-clause-path g c =
     let s = c.args.self.now in
     let t = c.raise.new.self in
-    not_opened s.shape s.index c.args.name s t t c.in-Err.ensures.does c.in-Err.ensures.adds
+    first_act s.shape s.index (Stay (at.RaiseCount (Open (own_call c.args.name)))) s t Refused refl c.in-Err.ensures.does c.in-Err.ensures.adds
 
 pub returns-in-Err-clause-unit : goal.returns-in-Err-clause-unit
 returns-in-Err-clause-unit g c = missed_none (c.args.self.now.holds == 0) c.args.self.now.marks.count c.raise.new.self.marks.count c.in-Err.ensures.does.1
@@ -24,7 +25,9 @@ returns-in-Ok-clause-path g c =
     let t = c.raise.new.self in
     let u = c.add.new.self in
     let n = c.args.name in
-    scope_grown s.shape s.index n s t u (Stay (at.RaiseCount (Open (own_call n)))) (opened s.shape s.index n s t u c.in_default.ensures.does c.in_default.ensures.adds) c.add.ensures.same c.add.ensures.adds
+    let first = Stay (at.RaiseCount (Open (own_call n))) in
+    let raised = first_act s.shape s.index first s t Done refl c.in_default.ensures.does c.in_default.ensures.adds in
+    by_act s.shape s.index first s (Stay (at.GrowScope (own_call n))) t u Done refl raised (c.add.ensures.same, tt) c.add.ensures.adds
 
 pub returns-in-Err-grow_scope-clause-path : goal.returns-in-Err-grow_scope-clause-path
 returns-in-Err-grow_scope-clause-path g c =
@@ -38,11 +41,9 @@ returns-in-Err-grow_scope-clause-path g c =
     let first = Stay (at.RaiseCount (Open (own_call n))) in
     let undone = Stay (undo (Open (own_call n))) in
     let back = HandBack (Open (own_call n)) in
-    let shape : u.shape ≡ s.shape = search rules in
-    let index : u.index ≡ s.index = search rules in
-    and_then h i first s undone back u v
-    (scope_not_grown h i n s t u first (opened h i n s t u c.in_default.ensures.does c.in_default.ensures.adds) c.add-in-Err-grow_scope.ensures.same c.add-in-Err-grow_scope.ensures.adds)
-    (of_worker s u v undone back shape index c.lower_then.ensures.path)
+    then_goes first undone back s u v
+    (by_act h i first s (Stay (at.GrowScope (own_call n))) t u Refused refl (first_act h i first s t Done refl c.in_default.ensures.does c.in_default.ensures.adds) (c.add-in-Err-grow_scope.ensures.same, tt) c.add-in-Err-grow_scope.ensures.adds)
+    c.lower_then.ensures.path
 
 pub returns-in-Err-grow_scope-clause-unit : goal.returns-in-Err-grow_scope-clause-unit
 returns-in-Err-grow_scope-clause-unit g c =

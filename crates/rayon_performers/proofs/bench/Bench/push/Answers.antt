@@ -1,4 +1,4 @@
-use Rattle.std.proofs.Common.{ℕ, refl, subst, ap, ◌∙◌}
+use Rattle.std.proofs.Common.{ℕ, refl, subst}
 use Rattle.std.proofs.lemmas.Result.{err_from_is_err_and}
 use Rattle.rayon_machine_places.specs.declared.place.Move.TheVariants.{Back, Stay}
 use Rattle.rayon_machine_places.specs.declared.place.Place.TheVariants as at
@@ -6,7 +6,8 @@ use Rattle.rayon_machine_places.specs.declared.place.Plan.TheVariants.{Detach}
 use Rattle.rayon_machine_places.specs.declared.act.Seen.TheVariants.{Done, Refused}
 use Rattle.rayon_machine_places.specs.Places.{undo}
 use Rattle.rayon_performers.proofs.Finds.{push_looked}
-use Rattle.rayon_performers.proofs.Stretches.{So, by_act, and_then, of_worker}
+use Rattle.rayon_performers.proofs.Stretches.{So, by_act}
+use Rattle.rayon_performers.proofs.Drives.{then_goes}
 use Rattle.rayon_performers.proofs.bench.Bench.push.Goals as goal
 
 pub returns-in_err-push_own-clause-path : goal.returns-in_err-push_own-clause-path
@@ -38,7 +39,7 @@ returns-clause-path g c =
     let z = c.look_own-was_empty.result in
     let looked = push_looked h i n s t t z c.look_own-was_empty.ensures.does c.look_own-was_empty.ensures.adds in
     let told = Stay (at.TellNews (Detach 0 n) z) in
-    let named = and_then h i first s told Back u v
+    let named = then_goes first told Back s u v
     (by_act h i first s (Stay (at.PushJob (Detach 0 n) z)) t u Done refl looked (c.in_ok-push_own.ensures.same.1, (c.args.task, c.in_ok-push_own.ensures.pushed.0, c.in_ok-push_own.ensures.same.0)) c.in_ok-push_own.ensures.pushed.1)
-    (of_worker s u v told Back (ap (λ w. w.shape) c.in_ok-push_own.ensures.same.1 ∙ ap (λ w. w.shape) c.look_own-was_empty.ensures.does.0) (ap (λ w. w.index) c.in_ok-push_own.ensures.same.1 ∙ ap (λ w. w.index) c.look_own-was_empty.ensures.does.0) c.tell_pushed.ensures.path) in
+    c.tell_pushed.ensures.path in
     subst (λ (m : ℕ). So h i (Stay (at.LookQueue (Detach 0 m))) s Back v) c.number-name.ensures named

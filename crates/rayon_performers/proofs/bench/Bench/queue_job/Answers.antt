@@ -1,17 +1,18 @@
-use Rattle.std.proofs.Common.{◌≡◌, ◌+◌, ◌==◌, ℕ, rules, sym, subst}
+use Rattle.std.proofs.Common.{refl, rules, subst, sym, ℕ, ◌+◌, ◌==◌, ◌≡◌}
 use Rattle.rayon_atomics.specs.declared.views.Teller.{Teller}
 use Rattle.rayon_machine_places.specs.declared.place.Move.TheVariants.{Stay, Back, HandBack}
 use Rattle.rayon_machine_places.specs.declared.place.Place.TheVariants as at
 use Rattle.rayon_machine_places.specs.declared.place.Plan.TheVariants.{Detach}
 use Rattle.rayon_machine_places.specs.Places.{undo}
+use Rattle.rayon_machine_places.specs.declared.act.Seen.TheVariants.{Done, Refused}
 use Rattle.rayon_shared.specs.Marks.{TakesUnit}
 use Rattle.rayon_performers.proofs.Recounts.{gave_back_at, missed_none}
-use Rattle.rayon_performers.proofs.Spawns.{not_raised, raised}
-use Rattle.rayon_performers.proofs.Stretches.{So, and_then, of_worker}
+use Rattle.rayon_performers.proofs.Stretches.{So, first_act}
+use Rattle.rayon_performers.proofs.Drives.{then_goes}
 use Rattle.rayon_performers.proofs.bench.Bench.queue_job.Goals as goal
 
 pub returns-in-Err-clause-path : goal.returns-in-Err-clause-path
-returns-in-Err-clause-path g c = not_raised c.args.self.now.shape c.args.self.now.index c.args.name c.args.self.now c.raise.new.self c.in-Err.ensures.does c.in-Err.ensures.adds
+returns-in-Err-clause-path g c = first_act c.args.self.now.shape c.args.self.now.index (Stay (at.RaiseCount (Detach 0 c.args.name))) c.args.self.now c.raise.new.self Refused refl c.in-Err.ensures.does c.in-Err.ensures.adds
 
 pub returns-in-Err-clause-unit : goal.returns-in-Err-clause-unit
 returns-in-Err-clause-unit g c = missed_none (c.args.self.now.holds == 0) c.args.self.now.marks.count c.raise.new.self.marks.count c.in-Err.ensures.does.1
@@ -24,12 +25,8 @@ returns-in-Ok-clause-path g c =
     let w = c.push.new.self in
     let first = Stay (at.RaiseCount (Detach 0 n)) in
     let queues = Stay (at.LookQueue (Detach 0 n)) in
-    let shape : u.shape ≡ a.shape = search rules in
-    let index : u.index ≡ a.index = search rules in
     let pushed = subst (λ (m : ℕ). So u.shape u.index (Stay (at.LookQueue (Detach 0 m))) u Back w) c.requires.name c.in-Ok.ensures.path in
-    and_then a.shape a.index first a queues Back u w
-    (raised a.shape a.index n a u c.in_default.ensures.does c.in_default.ensures.adds)
-    (of_worker a u w queues Back shape index pushed)
+    then_goes first queues Back a u w (first_act a.shape a.index first a u Done refl c.in_default.ensures.does c.in_default.ensures.adds) pushed
 
 pub returns-in-Err-push-clause-path : goal.returns-in-Err-push-clause-path
 returns-in-Err-push-clause-path g c =
@@ -42,16 +39,10 @@ returns-in-Err-push-clause-path g c =
     let queues = Stay (at.LookQueue (Detach 0 n)) in
     let undone = Stay (undo (Detach 0 n)) in
     let back = HandBack (Detach 0 n) in
-    let shape : u.shape ≡ a.shape = search rules in
-    let index : u.index ≡ a.index = search rules in
-    let shape2 : w.shape ≡ a.shape = search rules in
-    let index2 : w.index ≡ a.index = search rules in
     let pushed = subst (λ (m : ℕ). So u.shape u.index (Stay (at.LookQueue (Detach 0 m))) u (Stay (undo (Detach 0 m))) w) c.requires.name c.in-Err-push.ensures.path in
-    and_then a.shape a.index first a undone back w x
-    (and_then a.shape a.index first a queues undone u w
-    (raised a.shape a.index n a u c.in_default.ensures.does c.in_default.ensures.adds)
-    (of_worker a u w queues undone shape index pushed))
-    (of_worker a w x undone back shape2 index2 c.lower_then.ensures.path)
+    then_goes first undone back a w x
+    (then_goes first queues undone a u w (first_act a.shape a.index first a u Done refl c.in_default.ensures.does c.in_default.ensures.adds) pushed)
+    c.lower_then.ensures.path
 
 pub returns-in-Ok-clause-unit : goal.returns-in-Ok-clause-unit
 returns-in-Ok-clause-unit g c =

@@ -5,15 +5,14 @@ use Rattle.rayon_machine_places.specs.declared.place.Party.TheVariants.{Worker}
 use Rattle.rayon_machine_places.specs.declared.place.Place.TheVariants as at
 use Rattle.rayon_machine_places.specs.declared.place.Taken.TheVariants.{Plain}
 use Rattle.rayon_machine_places.specs.declared.act.Act.TheVariants as acts
-use Rattle.rayon_machine_places.specs.declared.act.Seen.TheVariants.{Missing, No, Task, Yes}
+use Rattle.rayon_machine_places.specs.declared.act.Seen.TheVariants.{Missing, Task, Yes}
 use Rattle.rayon_machine_places.specs.Places.{next_of}
 use Rattle.rayon_drive.specs.Traces.{Adds}
 use Rattle.rayon_performers.specs.Hands.{Does}
 use Rattle.rayon_performers.specs.Waits.{holding, rejoins}
-use Rattle.rayon_performers.proofs.Drives.{does_stays, seat_then}
 use Rattle.rayon_performers.proofs.Offers.{join_probed, join_popped, own_popped, pops_holding}
-use Rattle.rayon_performers.proofs.Stretches.{So, and_then}
 use Rattle.rayon_tasks.specs.Tasks.{taken_in}
+use Rattle.rayon_performers.proofs.Drives.{then_at}
 use Rattle.rayon_performers.proofs.bench.Bench.reclaim.Goals as goal
 
 pub returns-then-probe_held-clause-path : goal.returns-then-probe_held-clause-path
@@ -25,11 +24,8 @@ returns-then-probe_held-clause-path g c =
     let v = c.take_up.new.self in
     let looked = subst (λ z. Does (acts.Probe (OfCall o.number)) Yes s z) (sym c.take_up.ensures) c.if-probe_held.ensures.does in
     let added = subst (λ z. Adds (acts.Probe (OfCall o.number)) Yes s.trace z.trace) (sym c.take_up.ensures) c.if-probe_held.ensures.adds in
-    let same = does_stays (acts.Probe (OfCall o.number)) Yes s v looked in
-    and_then h i (Stay (at.JoinProbe o)) s (next_of h (Worker 0 i) (at.JoinProbe o) Yes) (rejoins o c.go_on_set.result) v c.go_on_set.new.self
-    (join_probed h i o s v v true looked added)
-    (subst (λ z. So z i (next_of z (Worker 0 i) (at.JoinProbe o) Yes) v (rejoins o c.go_on_set.result) c.go_on_set.new.self) same.1
-    (subst (λ z. So v.shape z (next_of v.shape (Worker 0 z) (at.JoinProbe o) Yes) v (rejoins o c.go_on_set.result) c.go_on_set.new.self) same.0 c.go_on_set.ensures.path))
+    then_at (Stay (at.JoinProbe o)) (λ k j. next_of k (Worker 0 j) (at.JoinProbe o) Yes) (rejoins o c.go_on_set.result) s v c.go_on_set.new.self
+    (join_probed h i o s v v true looked added) c.go_on_set.ensures.path
 
 pub returns-in_default-clause-path : goal.returns-in_default-clause-path
 returns-in_default-clause-path g c =
@@ -43,15 +39,11 @@ returns-in_default-clause-path g c =
     let v = c.take_up-in_default.new.self in
     let popped = subst (λ z. Does acts.PopOwn Missing t z) (sym c.take_up-in_default.ensures) (pops_holding k.ticket k.latch Missing p c.pop_out.new.self c.in_default.ensures.does) in
     let added = subst (λ z. Adds acts.PopOwn Missing t.trace z.trace) (sym c.take_up-in_default.ensures) c.in_default.ensures.adds in
-    let same = seat_then s t v
-    (does_stays (acts.Probe (OfCall o.number)) No s t c.if-probe_held.ensures.does)
-    (does_stays acts.PopOwn Missing t v popped) in
-    and_then h i (Stay (at.JoinProbe o)) s (next_of h (Worker 0 i) (at.JoinPop o) Missing) (rejoins o c.go_on_popped.result) v c.go_on_popped.new.self
+    then_at (Stay (at.JoinProbe o)) (λ k j. next_of k (Worker 0 j) (at.JoinPop o) Missing) (rejoins o c.go_on_popped.result) s v c.go_on_popped.new.self
     (join_popped h i o s t v Missing
     (join_probed h i o s t t false c.if-probe_held.ensures.does c.if-probe_held.ensures.adds)
     popped added)
-    (subst (λ z. So z i (next_of z (Worker 0 i) (at.JoinPop o) Missing) v (rejoins o c.go_on_popped.result) c.go_on_popped.new.self) same.1
-    (subst (λ z. So v.shape z (next_of v.shape (Worker 0 z) (at.JoinPop o) Missing) v (rejoins o c.go_on_popped.result) c.go_on_popped.new.self) same.0 c.go_on_popped.ensures.path))
+    c.go_on_popped.ensures.path
 
 pub returns-then-is_plain-clause-path : goal.returns-then-is_plain-clause-path
 returns-then-is_plain-clause-path g c =
@@ -83,12 +75,8 @@ returns-clause-path g c =
     let u = record c.take_up-2.new.self { task = Some c.in-Some.task } in
     let popped = subst (λ z. Does acts.PopOwn x t (record z { task = Some c.in-Some.task })) (sym c.take_up-2.ensures) (pops_holding k.ticket k.latch x p (record c.pop_out.new.self { task = Some c.in-Some.task }) c.in-Some.ensures.does) in
     let added = subst (λ z. Adds acts.PopOwn x t.trace z.trace) (sym c.take_up-2.ensures) c.in-Some.ensures.adds in
-    let same = seat_then s t u
-    (does_stays (acts.Probe (OfCall o.number)) No s t c.if-probe_held.ensures.does)
-    (does_stays acts.PopOwn x t u popped) in
-    and_then h i (Stay (at.JoinProbe o)) s (next_of h (Worker 0 i) (at.JoinPop o) x) (rejoins o c.go_on_found.result) u c.go_on_found.new.self
+    then_at (Stay (at.JoinProbe o)) (λ k j. next_of k (Worker 0 j) (at.JoinPop o) x) (rejoins o c.go_on_found.result) s u c.go_on_found.new.self
     (join_popped h i o s t u x
     (join_probed h i o s t t false c.if-probe_held.ensures.does c.if-probe_held.ensures.adds)
     popped added)
-    (subst (λ z. So z i (next_of z (Worker 0 i) (at.JoinPop o) x) u (rejoins o c.go_on_found.result) c.go_on_found.new.self) same.1
-    (subst (λ z. So u.shape z (next_of u.shape (Worker 0 z) (at.JoinPop o) x) u (rejoins o c.go_on_found.result) c.go_on_found.new.self) same.0 c.go_on_found.ensures.path))
+    c.go_on_found.ensures.path

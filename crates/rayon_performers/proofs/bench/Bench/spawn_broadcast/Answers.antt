@@ -1,7 +1,11 @@
-use Rattle.std.proofs.Common.{inl, inr, subst}
+use Rattle.std.proofs.Common.{inl, inr, refl, subst}
+use Rattle.rayon_machine_places.specs.declared.place.Place.TheVariants as at
+use Rattle.rayon_machine_places.specs.declared.place.Move.TheVariants.{Stay}
+use Rattle.rayon_machine_places.specs.declared.act.Seen.TheVariants.{Refused}
 use Rattle.rayon_performers.specs.Casts.{Casts, CastsNone}
 use Rattle.rayon_shared.specs.Casts.{casting}
-use Rattle.rayon_performers.proofs.Casts.{cast_called, cast_not_raised, cast_withdrawn}
+use Rattle.rayon_performers.proofs.Casts.{cast_called, cast_withdrawn}
+use Rattle.rayon_performers.proofs.Stretches.{first_act}
 use Rattle.rayon_performers.proofs.bench.Bench.spawn_broadcast.Goals as goal
 
 pub returns-in-Err-raise_all-clause-path : goal.returns-in-Err-raise_all-clause-path
@@ -11,7 +15,7 @@ returns-in-Err-raise_all-clause-path g c =
     let t = c.raise_all.new.self in
     subst (λ z. CastsNone (casting a z.shape.workers) z t) c.make_pieces.ensures.same
     (subst (λ v. CastsNone (casting a v.shape.workers) s t) c.self.view_is
-    (inr (inl (cast_not_raised s.shape s.index a _ s t t c.in-Err-raise_all.ensures.does c.in-Err-raise_all.ensures.adds))))
+    (inr (inl (first_act s.shape s.index (Stay (at.RaiseForAll (casting a _))) s t Refused refl c.in-Err-raise_all.ensures.does c.in-Err-raise_all.ensures.adds))))
 
 pub returns-in-Ok-push_cast-clause-path : goal.returns-in-Ok-push_cast-clause-path
 returns-in-Ok-push_cast-clause-path g c =

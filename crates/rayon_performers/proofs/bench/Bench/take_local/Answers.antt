@@ -3,7 +3,7 @@ use Rattle.rayon_machine_places.specs.declared.place.Move.TheVariants.{Stay}
 use Rattle.rayon_machine_places.specs.declared.place.Place.TheVariants as at
 use Rattle.rayon_machine_places.specs.declared.act.Seen.TheVariants.{Task}
 use Rattle.rayon_performers.proofs.Finds.{given, local_missed, local_took, missed_unmoved, missed_same, missed_left, none_left, not_popped, piece_left, piece_same, piece_unmoved}
-use Rattle.rayon_performers.proofs.Stretches.{so_far, by_act}
+use Rattle.rayon_performers.proofs.Stretches.{first_act}
 use Rattle.rayon_performers.proofs.bench.Bench.take_local.Goals as goal
 
 pub returns-in-Task-clause-path : goal.returns-in-Task-clause-path
@@ -14,7 +14,7 @@ returns-in-Task-clause-path g c =
     let s = c.args.self.now in
     let t = c.pop_own.new.self in
     given h i first s t c.take_task.new.self c.in-Task.field-0 c.take_task.result c.take_task.ensures.given c.take_task.ensures.left c.in-Task.ensures.does.1.0
-    (by_act h i first s first s t (Task c.in-Task.field-0) refl (so_far h i first s) c.in-Task.ensures.does c.in-Task.ensures.adds)
+    (first_act h i first s t (Task c.in-Task.field-0) refl c.in-Task.ensures.does c.in-Task.ensures.adds)
 
 pub returns-in-Task-clause-empty : goal.returns-in-Task-clause-empty
 returns-in-Task-clause-empty g c = λ e. absurd (none_left c.args.self.now.own c.pop_own.new.self.own c.pop_own.new.self.task c.in-Task.ensures.does.1.1 e)

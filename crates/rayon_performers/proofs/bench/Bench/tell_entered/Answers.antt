@@ -1,4 +1,4 @@
-use Rattle.std.proofs.Common.{subst}
+use Rattle.std.proofs.Common.{refl, subst}
 use Rattle.rayon_machine_places.specs.declared.place.Entry.{Entry}
 use Rattle.rayon_machine_places.specs.declared.place.Move.{Move}
 use Rattle.rayon_machine_places.specs.declared.place.Move.TheVariants.{Back, Stay}
@@ -7,9 +7,9 @@ use Rattle.rayon_machine_places.specs.declared.place.Place.TheVariants as at
 use Rattle.rayon_performers.specs.Scopes.{entering}
 use Rattle.rayon_machine_places.specs.declared.place.Then.TheVariants.{Resume}
 use Rattle.rayon_machine_places.specs.Places.{walk}
-use Rattle.rayon_performers.proofs.Scopes.{entered_told}
+use Rattle.rayon_machine_places.specs.declared.act.Seen.TheVariants.{Wakes}
 use Rattle.rayon_performers.proofs.Offers.{no_walk}
-use Rattle.rayon_performers.proofs.Stretches.{So, and_then}
+use Rattle.rayon_performers.proofs.Stretches.{So, and_then, first_act}
 use Rattle.rayon_performers.proofs.bench.Bench.tell_entered.Goals as goal
 
 pub returns-then-owed-gt0-clause-path : goal.returns-then-owed-gt0-clause-path
@@ -20,7 +20,7 @@ returns-then-owed-gt0-clause-path g c =
     let s = c.args.self.now in
     let t = c.news-owed.new.self in
     and_then h i first s (walk h (Worker 0 i) 0 c.news-owed.result 0 Resume) Back t c.finish_from.new.self
-    (entered_told h i c.args.call c.args.owner c.args.name s t t c.args.was_empty c.news-owed.result c.news-owed.ensures.does c.news-owed.ensures.adds)
+    (first_act h i first s t (Wakes c.news-owed.result) refl c.news-owed.ensures.does c.news-owed.ensures.adds)
     (subst (λ (e : Entry). So h i (walk h (Worker 0 i) e.pool c.news-owed.result 0 Resume) t Back c.finish_from.new.self) c.entry_of.ensures
     (subst (λ v. So v.shape v.index (walk v.shape (Worker 0 v.index) c.entry_of.result.pool c.news-owed.result 0 Resume) t Back c.finish_from.new.self) c.self.view_is c.finish_from.ensures.path))
 
@@ -32,4 +32,4 @@ returns-else-owed-gt0-clause-path g c =
     let t = c.news-owed.new.self in
     subst (λ (m : Move). So h i (Stay (at.TellNews (entering c.args.call c.args.owner c.args.name) c.args.was_empty)) s m t)
     (no_walk h (Worker 0 i) 0 c.news-owed.result 0 Resume c.if-owed-gt0.false)
-    (entered_told h i c.args.call c.args.owner c.args.name s t t c.args.was_empty c.news-owed.result c.news-owed.ensures.does c.news-owed.ensures.adds)
+    (first_act h i (Stay (at.TellNews (entering c.args.call c.args.owner c.args.name) c.args.was_empty)) s t (Wakes c.news-owed.result) refl c.news-owed.ensures.does c.news-owed.ensures.adds)

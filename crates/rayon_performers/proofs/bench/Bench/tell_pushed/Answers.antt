@@ -1,4 +1,4 @@
-use Rattle.std.proofs.Common.{subst}
+use Rattle.std.proofs.Common.{refl, subst}
 use Rattle.rayon_machine_places.specs.declared.place.Move.{Move}
 use Rattle.rayon_machine_places.specs.declared.place.Move.TheVariants.{Back, Stay}
 use Rattle.rayon_machine_places.specs.declared.place.Party.TheVariants.{Worker}
@@ -6,9 +6,10 @@ use Rattle.rayon_machine_places.specs.declared.place.Place.TheVariants as at
 use Rattle.rayon_machine_places.specs.declared.place.Plan.TheVariants.{Detach}
 use Rattle.rayon_machine_places.specs.declared.place.Then.TheVariants.{Resume}
 use Rattle.rayon_machine_places.specs.Places.{walk}
-use Rattle.rayon_performers.proofs.Finds.{push_told}
+use Rattle.rayon_machine_places.specs.declared.act.Seen.TheVariants.{Wakes}
 use Rattle.rayon_performers.proofs.Offers.{no_walk}
-use Rattle.rayon_performers.proofs.Stretches.{So, and_then}
+use Rattle.rayon_performers.proofs.Stretches.{So, first_act}
+use Rattle.rayon_performers.proofs.Drives.{then_at}
 use Rattle.rayon_performers.proofs.bench.Bench.tell_pushed.Goals as goal
 
 pub returns-then-owed-gt0-clause-path : goal.returns-then-owed-gt0-clause-path
@@ -18,9 +19,8 @@ returns-then-owed-gt0-clause-path g c =
     let first = Stay (at.TellNews (Detach 0 c.args.name) c.args.was_empty) in
     let s = c.args.self.now in
     let t = c.news-owed.new.self in
-    and_then h i first s (walk h (Worker 0 i) 0 c.news-owed.result 0 Resume) Back t c.wake_for_job.new.self
-    (push_told h i c.args.name s t t c.args.was_empty c.news-owed.result c.news-owed.ensures.does c.news-owed.ensures.adds)
-    (subst (λ v. So v.shape v.index (walk v.shape (Worker 0 v.index) 0 c.news-owed.result 0 Resume) t Back c.wake_for_job.new.self) c.news-owed.ensures.same c.wake_for_job.ensures.path)
+    then_at first (λ k j. walk k (Worker 0 j) 0 c.news-owed.result 0 Resume) Back s t c.wake_for_job.new.self
+    (first_act h i first s t (Wakes c.news-owed.result) refl c.news-owed.ensures.does c.news-owed.ensures.adds) c.wake_for_job.ensures.path
 
 pub returns-else-owed-gt0-clause-path : goal.returns-else-owed-gt0-clause-path
 returns-else-owed-gt0-clause-path g c =
@@ -30,4 +30,4 @@ returns-else-owed-gt0-clause-path g c =
     let t = c.news-owed.new.self in
     subst (λ (m : Move). So h i (Stay (at.TellNews (Detach 0 c.args.name) c.args.was_empty)) s m t)
     (no_walk h (Worker 0 i) 0 c.news-owed.result 0 Resume c.if-owed-gt0.false)
-    (push_told h i c.args.name s t t c.args.was_empty c.news-owed.result c.news-owed.ensures.does c.news-owed.ensures.adds)
+    (first_act h i (Stay (at.TellNews (Detach 0 c.args.name) c.args.was_empty)) s t (Wakes c.news-owed.result) refl c.news-owed.ensures.does c.news-owed.ensures.adds)

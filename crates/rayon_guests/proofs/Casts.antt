@@ -134,6 +134,10 @@ module _ {X G O F H : Type 0} where
       let none = starts (λ (v : Visit X G O F H) a y w. Does a y v w) (λ (v : Visit X G O F H). v.trace) s.shape (Caller 0) m s in
       goes_on (λ (v : Visit X G O F H) a y w. Does a y v w) (λ (v : Visit X G O F H). v.trace) s.shape (Caller 0) m s s m x t none g d.0 d.1
 
+  -- one path after another
+  pub joined : (h : PoolShape) (m k n : Move) (s u t : Visit X G O F H) → So h m s k u → So h k u n t → So h m s n t
+  joined h m k n s u t d e = driven_then (λ (v : Visit X G O F H) x y w. Does x y v w) (λ (v : Visit X G O F H). v.trace) h (Caller 0) m s u k t n d e
+
   -- the units of all pieces are given back, and were not the last
   pub lowered : (c : Pieces) (s t : Visit X G O F H) → Made (acts.LowerAll c) No s t → HandsBack (Stay (at.LowerForAll c)) c s t
   lowered c s t d = inl (one (Stay (at.LowerForAll c)) No s t refl d)

@@ -1,4 +1,3 @@
 pub mod Casts
-pub mod Gathers
 pub mod ScopeCasts
 pub mod Visits

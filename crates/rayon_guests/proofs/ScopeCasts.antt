@@ -28,8 +28,7 @@ use Rattle.rayon_guests.specs.Casts.{CastsInto, EntersForAll, EntersForNone, Goe
 use Rattle.rayon_guests.specs.Paths.{calling}
 use Rattle.rayon_guests.specs.Visiting.{At, IsHere, IsWhole, Next, set_call_at}
 use Rattle.rayon_guests.specs.Visits.{Visit, Does, Hand, LowersAll, RaisesAll, SharesAll, SharesNone, hand}
-use Rattle.rayon_guests.proofs.Casts.{Closes, one, over}
-use Rattle.rayon_guests.proofs.Gathers.{then}
+use Rattle.rayon_guests.proofs.Casts.{Closes, one, over, joined}
 use Rattle.rayon_guests.proofs.Visits.{So, own_call}
 
 -- the latch that is set for a scope's count is no place at rest
@@ -155,8 +154,8 @@ module _ {X G O F H : Type 0} where
 
   -- pieces are handed back after what came before
   then_back : (c : Pieces) (m k : Move) (s u t : Visit X G O F H) → u.shape ≡ s.shape → So s.shape m s k u → HandsBack k c u t → HandsBack m c s t
-  then_back c m k s u t same d (inl p) = inl (then s.shape m k (HandAllBack c) s u t d (subst (λ (h : PoolShape). So h k u (HandAllBack c) t) same p))
-  then_back c m k s u t same d (inr p) = inr (p.0, then s.shape m k (Mark (ends_count c.count) c Returned) s u p.0 d (subst (λ (h : PoolShape). So h k u (Mark (ends_count c.count) c Returned) p.0) same p.1), p.2)
+  then_back c m k s u t same d (inl p) = inl (joined s.shape m k (HandAllBack c) s u t d (subst (λ (h : PoolShape). So h k u (HandAllBack c) t) same p))
+  then_back c m k s u t same d (inr p) = inr (p.0, joined s.shape m k (Mark (ends_count c.count) c Returned) s u p.0 d (subst (λ (h : PoolShape). So h k u (Mark (ends_count c.count) c Returned) p.0) same p.1), p.2)
 
   -- the latch of the scope is set, since the shares were the last of its count
   pub scope_ended : (h : PoolShape) (e : Entry) (n : ℕ) (c : Pieces) (p : Place) (s u : Visit X G O F H) → c ≡ cast_into e n → p ≡ ends_count (OfScope e.call e.owner) → So h (Stay p) s Back u → So h (Mark (ends_count c.count) c Returned) s Back u
@@ -182,7 +181,7 @@ module _ {X G O F H : Type 0} where
         let opened = subst (λ (h : PoolShape). So h opens t pushes g.0) raised.0.1 g.1 in
         let queued = subst (λ (h : PoolShape). So h pushes g.0 (Mark (call_all h c) c Queued) u) raised.0.1 g.2 in
         let called = subst (λ (h : PoolShape). So h (Mark (call_all h c) c Queued) u Back v) same w in
-        (g.0, then s.shape first opens pushes s t g.0 (into_raised e n s t raised) opened, then s.shape pushes calls Back g.0 u v queued called)
+        (g.0, joined s.shape first opens pushes s t g.0 (into_raised e n s t raised) opened, joined s.shape pushes calls Back g.0 u v queued called)
 
     -- they got none, or were not queued, and their shares were given back
     cast_unnumbered : StayUnnumbered (cast_into e n) t u → HandsBack (Stay (at.LowerForAll (cast_into e n))) (cast_into e n) u v → HandsBack (Stay (at.RaiseForAll (cast_into e n))) (cast_into e n) s v
@@ -191,13 +190,13 @@ module _ {X G O F H : Type 0} where
         let first = Stay (at.RaiseForAll c) in
         let opens = Mark (at.OpenForAll c) c Counted in
         let lowers = Stay (at.LowerForAll c) in
-        then_back c first lowers s u v same (then s.shape first opens lowers s t u (into_raised e n s t raised) (subst (λ (h : PoolShape). So h opens t lowers u) raised.0.1 g)) w
+        then_back c first lowers s u v same (joined s.shape first opens lowers s t u (into_raised e n s t raised) (subst (λ (h : PoolShape). So h opens t lowers u) raised.0.1 g)) w
     cast_unnumbered (inr g) w =
         let c = cast_into e n in
         let first = Stay (at.RaiseForAll c) in
         let opens = Mark (at.OpenForAll c) c Counted in
         let lowers = Mark (at.LowerForAll c) c Unnumbered in
-        then_back c first lowers s u v same (then s.shape first opens lowers s t u (into_raised e n s t raised) (subst (λ (h : PoolShape). So h opens t lowers u) raised.0.1 g)) (from_unnumbered c u v w)
+        then_back c first lowers s u v same (joined s.shape first opens lowers s t u (into_raised e n s t raised) (subst (λ (h : PoolShape). So h opens t lowers u) raised.0.1 g)) (from_unnumbered c u v w)
 
   -- the same, of pieces that are those of this broadcast
   pub cast_into_scope : (e : Entry) (n k : ℕ) (c : Pieces) (s t u v : Visit X G O F H) → c ≡ cast_into e n → u ≡ record t { trace = u.trace } → Made (acts.RaiseAll c) Done s t → GoesNumbered c k (Mark (at.OpenForAll c) c Counted) t u (Mark (call_all t.shape c) c Queued) → So u.shape (Mark (call_all u.shape c) c Queued) u Back v → CastsInto (cast_into e n) k s v

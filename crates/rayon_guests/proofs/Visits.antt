@@ -7,7 +7,7 @@ use Rattle.rayon_machine_places.specs.declared.place.Party.TheVariants.{Caller}
 use Rattle.rayon_machine_places.specs.declared.place.Entry.{Entry}
 use Rattle.rayon_machine_places.specs.declared.place.OpenCall.{OpenCall}
 use Rattle.rayon_machine_places.specs.declared.place.Plan.{Plan}
-use Rattle.rayon_machine_places.specs.declared.place.Plan.TheVariants.{Detach, Enter, Open, Send}
+use Rattle.rayon_machine_places.specs.declared.place.Plan.TheVariants.{Detach, Enter, Gather, Open, Send}
 use Rattle.rayon_machine_places.specs.declared.place.Place.{Place}
 use Rattle.rayon_machine_places.specs.declared.place.Place.TheVariants as at
 use Rattle.rayon_machine_places.specs.declared.place.Move.{Move}
@@ -25,8 +25,9 @@ use Rattle.rayon_tasks.specs.Tasks.{TaskOf}
 use Rattle.rayon_tasks.specs.Tickets.{TicketOf}
 use Rattle.rayon_jobs.specs.Within.{Run}
 use Rattle.rayon_guests.specs.declared.load.Load.{Load}
+use Rattle.rayon_guests.specs.declared.load.Load.TheVariants.{Cast}
 use Rattle.rayon_guests.specs.Paths.{Enters, EntersHere, EntersNone, EntersNoneHere, calling}
-use Rattle.rayon_guests.specs.Visits.{Visit, Hand, Does, after, call_of, hand, opening, sent}
+use Rattle.rayon_guests.specs.Visits.{Visit, Hand, Does, IsCast, after, call_of, hand, opening, sent}
 use Rattle.rayon_guests.specs.Visiting.{At, Fits, IsEnter, IsScoped, IsSend, KeepsCall, Kept, KeptIn, IsWhole, at_on}
 
 -- a call that sends its load keeps no ticket of a scope
@@ -52,6 +53,11 @@ module _ {X G O F H : Type 0} where
   kept_pushed p n m b None v e k = k
   kept_pushed p n m b (Some w) v e k = subst (λ (q : Plan). sent (plan_job q) m (Some w) v ≡ sent (plan_job p) m b.load b.inlet) (sym e) (ap (λ (l : Option (Load X G O F H)). sent (plan_job p) m l v) k.0 ∙ ap (λ (u : Visitor (TaskOf X)). sent (plan_job p) m b.load u) k.1)
 
+  -- and a push of pieces the job, of which the pass has nothing
+  kept_dealt : (n m : ℕ) (b : Hand X G O F H) (l : Option (Load X G O F H)) (v : Visitor (TaskOf X)) → IsCast l → KeptIn n m b l v → v ≡ sent n m b.load b.inlet
+  kept_dealt n m b (Some (Cast j)) v i k = k.1 ∙ ap (λ (l : Option (Load X G O F H)). sent n m l b.inlet) k.0
+  kept_dealt n m b _ v i k = absurd i
+
   -- the number of a book matters to a load that was pushed alone
   kept_numbered : (p n : Plan) (b s : Hand X G O F H) (m : ℕ) → Fits n s.load s.call → IsEnter n → Kept (plan_job p) b s → KeptIn (plan_job p) m b s.load s.inlet
   kept_numbered p (Enter e) b s m f i k = by s.load f.2 k
@@ -73,7 +79,7 @@ module _ {X G O F H : Type 0} where
   kept_on p b s t (at.OpenSlot n) x a k = kept_numbered p n b s t.slot a.1.1 a.1.3 k
   kept_on p b s t (at.PushJob n e) Done a k = kept_pushed p n s.slot b s.load s.inlet a.1.0 k
   kept_on p b s t (at.PushForAll c) x a k = absurd a.1
-  kept_on p b s t (at.DealPieces g) x a k = absurd a.1
+  kept_on p b s t (at.DealPieces g) Done a k = kept_dealt (plan_job p) s.slot b s.load s.inlet a.0.0 k
   kept_on p b s t (at.BeginTask n) x a k = absurd a.1
   kept_on p b s t _ _ a k = k
 
@@ -88,7 +94,7 @@ module _ {X G O F H : Type 0} where
   call_kept p k s t (at.LowerCount _ o n) x a c = c
   call_kept p k s t (at.GrowCall n) x a c = not_sent p n k t.call a.1.0 a.1.3
   call_kept p k s t (at.GrowScope o) x a c = subst (λ (q : Plan). KeepsCall q k t.call) a.1.0 tt
-  call_kept p k s t (at.GrowCast g) x a c = absurd a.1
+  call_kept p k s t (at.GrowCast g) x a c = subst (λ (q : Plan). KeepsCall q k t.call) a.1.0 tt
   call_kept p k s t (at.BeginTask n) x a c = absurd a.1
   call_kept p k s t _ _ a c = c
 
@@ -103,7 +109,7 @@ module _ {X G O F H : Type 0} where
   -- what a drive of a call leaves
   pub call_ends : (p : Plan) (h : PoolShape) (m : Move) (s u : Visit X G O F H) (n : Move) → At p (hand s) m → So h m s n u → At p (hand u) n × KeepsAll p s u
   call_ends p h m s u n a d =
-      driven_keeps (λ (v : Visit X G O F H) x y w. Does x y v w) (λ (v : Visit X G O F H). v.trace) (Stood p s) h (Caller 0) (stays_at (Stood p s) (λ v y c k b. absurd b.0) (λ v y k b. absurd b.0)) keeps m s u n (a, (start (hand s).load, own p, refl, refl)) d
+      driven_keeps (λ (v : Visit X G O F H) x y w. Does x y v w) (λ (v : Visit X G O F H). v.trace) (Stood p s) h (Caller 0) (stays_at (Stood p s) (λ v y c k b. b) (λ v y k b. absurd b.0)) keeps m s u n (a, (start (hand s).load, own p, refl, refl)) d
     where
       start : (l : Option (Load X G O F H)) → KeptIn (plan_job p) s.slot (record (hand s) { load = l }) l s.inlet
       start None = refl
@@ -135,6 +141,7 @@ module _ {X G O F H : Type 0} where
   load_whole (Send o) l k f = tt
   load_whole (Detach r n) l k f = tt
   load_whole (Enter e) l k f = tt
+  load_whole (Gather g) l k f = tt
   load_whole _ l k f = absurd f
 
   -- a scope's body begins to run, under the name of its call

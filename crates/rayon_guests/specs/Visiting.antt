@@ -1,9 +1,11 @@
 -- What an outside caller has at each place of its calls.
-use Rattle.std.specs.Prelude.{◌≡◌, ℕ, ◌+◌, nat_lt, ◌&&◌, if◌then◌else◌, is_some, Bool, true, false, Option, None, Some}
+use Rattle.std.specs.Prelude.{◌≡◌, ℕ, ◌+◌, ◌<◌, ◌^◌, nat_lt, ◌&&◌, if◌then◌else◌, is_some, Bool, true, false, Option, None, Some}
 use Rattle.std.proofs.Common.{refl, sym, subst, ap, ◌∙◌}
 use Rattle.rayon_machine_places.specs.declared.place.Count.TheVariants.{OfPool, OfScope}
 use Rattle.rayon_machine_places.specs.declared.place.Party.{Party}
 use Rattle.rayon_machine_places.specs.declared.place.Party.TheVariants.{Worker, Caller}
+use Rattle.rayon_machine_places.specs.declared.act.Act.TheVariants as acts
+use Rattle.rayon_machine_places.specs.declared.place.Gathering.{Gathering}
 use Rattle.rayon_machine_places.specs.declared.place.Latch.{Latch}
 use Rattle.rayon_machine_places.specs.declared.place.Latch.TheVariants.{Terminate, OfCall}
 use Rattle.rayon_machine_places.specs.declared.place.OpenCall.{OpenCall}
@@ -14,7 +16,7 @@ use Rattle.rayon_machine_places.specs.declared.place.Settling.{Settling}
 use Rattle.rayon_machine_places.specs.declared.place.Place.{Place}
 use Rattle.rayon_machine_places.specs.declared.place.Place.TheVariants as at
 use Rattle.rayon_machine_places.specs.declared.place.Move.{Move}
-use Rattle.rayon_machine_places.specs.declared.place.Move.TheVariants.{Stay, Back, HandBack, StartRun}
+use Rattle.rayon_machine_places.specs.declared.place.Move.TheVariants.{Stay, Back, HandBack, Mark, StartRun}
 use Rattle.rayon_machine_places.specs.declared.act.Seen.{Seen}
 use Rattle.rayon_machine_places.specs.declared.act.Seen.TheVariants.{Done, Yes, Wakes, Found}
 use Rattle.rayon_machine_places.specs.declared.shape.PoolShape.{PoolShape}
@@ -25,10 +27,10 @@ use Rattle.rayon_queues.specs.Deques.{Visitor}
 use Rattle.rayon_tasks.specs.Tasks.{TaskOf}
 use Rattle.rayon_tasks.specs.Tickets.{CoreOf, TicketOf, call_alone}
 use Rattle.rayon_guests.specs.declared.load.Load.{Load}
-use Rattle.rayon_guests.specs.declared.load.Load.TheVariants.{Job, Sides, Detached, Scoped}
+use Rattle.rayon_guests.specs.declared.load.Load.TheVariants.{Cast, Job, Sides, Detached, Scoped}
 use Rattle.rayon_shared.specs.AtHand.{HasTicket}
 use Rattle.rayon_shared.specs.Marks.{IsScope, scope_in}
-use Rattle.rayon_guests.specs.Visits.{Visit, Hand, hand, Needs, Does, Grown, GrownFor, HasCall, IsCast, IsNewScope, LentFor, Packed, after, detached_ticket, first_of, if_done, sent, ticket_of, unit_after}
+use Rattle.rayon_guests.specs.Visits.{Visit, Hand, hand, Needs, Does, Grown, GrownFor, HasCall, IsCast, IsNewCast, IsNewScope, LentFor, Packed, after, detached_ticket, first_of, if_done, sent, ticket_of, unit_after}
 
 -- who waits for a scope's end is a worker of the one pool that there is, or an outside caller
 abbrev pub IsHere : Party → Type 0
@@ -40,10 +42,9 @@ abbrev pub IsSend : Plan → Type 0
 IsSend (Send o) = Unit {0}
 IsSend _ = ⊥
 
--- a call whose acts are all made in one drive: it opens no scope, and is no broadcast that waits
+-- a call whose acts are all made in one drive: it opens no scope
 abbrev pub IsWhole : Plan → Type 0
 IsWhole (Open o) = ⊥
-IsWhole (Gather g) = ⊥
 IsWhole _ = Unit {0}
 
 -- a spawn into a scope
@@ -100,19 +101,15 @@ module _ {X G O F H : Type 0} where
   Fits (Detach p n) l k = (p ≡ 0) × IsDetached (detached_ticket n) l
   Fits (Open o) l k = (o.pool ≡ 0) × (l ≡ None)
   Fits (Enter e) l k = (e.pool ≡ 0) × IsHere e.owner × IsScoped l × IsScope (scope_in k) e.call
+  Fits (Gather g) l k = (g.call.pool ≡ 0) × IsCast l × (g.pieces.first + g.pieces.workers < 2 ^ 64)
   Fits _ l k = ⊥
-
-  -- a refused call of this plan has its load in hand again, a broadcast that waits its job
-  abbrev pub ComesBack : Plan → Option (Load X G O F H) → Option TicketOf → Type 0
-  ComesBack (Gather g) l k = IsCast l
-  ComesBack n l k = Fits n l k
 
   -- what is in hand where workers have been woken and latches set, in a call of this plan: the load was queued and the call
   -- waits, or is over; or it hands the load back
   abbrev pub Next : Plan → Hand X G O F H → Move → Type 0
   Next p s (Stay (at.WaitForLock o)) = HasCall o.number s.call × (o.pool ≡ 0) × (s.holds ≡ true) × (s.load ≡ None) × IsWhole p
   Next p s Back = (s.holds ≡ false) × (s.load ≡ None) × IsWhole p
-  Next p s (HandBack n) = (n ≡ p) × (s.holds ≡ false) × ComesBack n s.load s.call
+  Next p s (HandBack n) = (n ≡ p) × (s.holds ≡ false) × Fits n s.load s.call
   Next p s _ = ⊥
 
   -- what is in hand beside what the act asks
@@ -120,6 +117,8 @@ module _ {X G O F H : Type 0} where
   Holds p s (at.RaiseCount n) = (n ≡ p) × Fits n s.load s.call × (s.holds ≡ false)
   Holds p s (at.GrowCall n) = (n ≡ p) × Fits n s.load s.call × (s.holds ≡ true) × IsSend n
   Holds p s (at.GrowScope o) = (Open o ≡ p) × (o.pool ≡ 0) × (s.load ≡ None) × (s.holds ≡ true)
+  Holds p s (at.GrowCast g) = (Gather g ≡ p) × Fits (Gather g) s.load s.call × (s.holds ≡ true)
+  Holds p s (at.DealPieces g) = (Gather g ≡ p) × Fits (Gather g) s.load s.call × (s.holds ≡ true) × HasCall g.call.number s.call
   Holds p s (at.OpenSlot n) = (n ≡ p) × Fits n s.load s.call × (s.holds ≡ false) × IsEnter n
   Holds p s (at.CloseSlot n) = (n ≡ p) × Fits n s.load s.call × (s.holds ≡ false) × IsEnter n
   Holds p s (at.LookQueue n) = (n ≡ p) × Fits n s.load s.call × (s.holds ≡ has_unit n) × Needs (act_of (Caller 0) (at.PushJob n true)) s
@@ -152,6 +151,7 @@ module _ {X G O F H : Type 0} where
   -- what is in hand where a call of this plan has moved so
   abbrev pub At : Plan → Hand X G O F H → Move → Type 0
   At p s (Stay y) = Needs (act_of (Caller 0) y) s × Holds p s y
+  At p s (Mark y c k) = Needs (act_of (Caller 0) y) s × Holds p s y
   At p s Back = Next p s Back
   At p s (HandBack n) = Next p s (HandBack n)
   At p s (StartRun y n) = Opened p s n y
@@ -217,6 +217,7 @@ module _ {X G O F H : Type 0} where
   raised_at p (Detach r n) s t a = (a.1.1.0, (a.1.0, a.1.1, refl, (a.1.1.0, tt, detached_packed n n s.load s.call s.first a.1.1.1)))
   raised_at p (Open o) s t a = (tt, (a.1.0, a.1.1.0, a.1.1.1, refl))
   raised_at p (Enter e) s t a = (a.1.1.3, (a.1.0, a.1.1, a.1.2, tt))
+  raised_at p (Gather g) s t a = (tt, (a.1.0, a.1.1, refl))
   raised_at p _ s t a = absurd a.1.1
 
   -- or was refused it
@@ -225,6 +226,7 @@ module _ {X G O F H : Type 0} where
   unraised_at p (Detach r n) s t x e a = subst (λ (b : Bool). Next p (record s { holds = b }) (HandBack (Detach r n))) (sym e) (a.1.0, a.1.2, a.1.1)
   unraised_at p (Open o) s t x e a = subst (λ (b : Bool). Next p (record s { holds = b }) (HandBack (Open o))) (sym e) (a.1.0, a.1.2, a.1.1)
   unraised_at p (Enter y) s t x e a = (a.1.0, a.1.2, a.1.1)
+  unraised_at p (Gather g) s t x e a = subst (λ (b : Bool). Next p (record s { holds = b }) (HandBack (Gather g))) (sym e) (a.1.0, a.1.2, a.1.1)
   unraised_at p _ s t x e a = absurd a.1.1
 
   -- it gives that back, since it was refused
@@ -233,6 +235,7 @@ module _ {X G O F H : Type 0} where
   undo_at p (Detach r n) s e f h = ((f.0, h), (e, refl, f))
   undo_at p (Open o) s e f h = ((f.0, h), (e, refl, f))
   undo_at p (Enter x) s e f h = (f.3, (f.1, (e, h, f)))
+  undo_at p (Gather g) s e f h = ((f.0, h), (e, refl, f))
   undo_at p _ s e f h = absurd f
 
   unnumbered_at : (p n : Plan) (s : Hand X G O F H) → n ≡ p → Fits n s.load s.call → s.holds ≡ false → IsEnter n → At p s (Stay (undo n))
@@ -245,6 +248,7 @@ module _ {X G O F H : Type 0} where
   unpushed_at p (Detach r n) s e a = undo_at p (Detach r n) s a.1.0 a.1.1 a.1.2
   unpushed_at p (Open o) s e a = undo_at p (Open o) s a.1.0 a.1.1 a.1.2
   unpushed_at p (Enter x) s e a = (a.0.1, (a.1.0, a.1.1, a.1.2, tt))
+  unpushed_at p (Gather g) s e a = undo_at p (Gather g) s a.1.0 a.1.1 a.1.2
   unpushed_at p _ s e a = absurd a.1.1
 
   -- the tickets of a call are made
@@ -263,6 +267,21 @@ module _ {X G O F H : Type 0} where
   -- the tickets were refused
   ungrown_at : (p n : Plan) (s : Hand X G O F H) (k m : Option TicketOf) → k ≡ s.call → m ≡ s.lent → At p s (Stay (undo n)) → At p (record s { call = k; lent = m }) (Stay (undo n))
   ungrown_at p n s k m e f a = subst (λ (z : Option TicketOf). At p (record s { call = k; lent = z }) (Stay (undo n))) (sym f) (subst (λ (z : Option TicketOf). At p (record s { call = z }) (Stay (undo n))) (sym e) a)
+
+  -- the ticket of a broadcast is made
+  cast_at : (w : ℕ) (p : Plan) (s t : Hand X G O F H) (g : Gathering) → At p s (Stay (at.GrowCast g)) → GrownFor w g.call.number s.load t.call → At p (after (acts.Grow g.call.number) Done t s) (Stay (at.DealPieces g))
+  cast_at w p s t g a m = ((a.1.1.1, a.1.1.2, (g.call.number, own)), (a.1.0, a.1.1, a.1.2, own))
+    where
+      by : (z : Option TicketOf) → IsNewCast w g.call.number z → HasCall g.call.number z
+      by None b = absurd b
+      by (Some u) b = subst (λ (v : TicketOf). HasCall g.call.number (Some v)) (sym b.1) (b.2, refl, refl)
+
+      own : HasCall g.call.number t.call
+      own = of s.load a.1.1.1 m
+        where
+          of : (l : Option (Load X G O F H)) → IsCast l → GrownFor w g.call.number l t.call → HasCall g.call.number t.call
+          of (Some (Cast j)) i b = by t.call b
+          of _ i b = absurd i
 
   -- the ticket of a scope is made, and its body begins to run
   opened_at : (w : ℕ) (p : Plan) (s : Hand X G O F H) (o : OpenCall) (k f m : Option TicketOf) → Open o ≡ p → o.pool ≡ 0 → s.load ≡ None → s.holds ≡ true → GrownFor w o.number s.load k → LentFor s.load k s.lent m → Opened p (record s { call = k; first = f; lent = m }) o.job (at.ScopeBody o)
@@ -297,6 +316,11 @@ module _ {X G O F H : Type 0} where
       by : (l : Option (Load X G O F H)) → IsScoped l → Next p (record s { inlet = v; load = None; holds = unit_after l s.holds; held = b }) Back
       by (Some (Scoped j t)) d = (h, refl, whole_as p (Enter x) q tt)
       by _ d = absurd d
+  pushed_at p (Gather g) s v b e q f h k = absurd (none s.load f.1 k)
+    where
+      none : (l : Option (Load X G O F H)) → IsCast l → Packed g.call.job l s.call s.first → ⊥
+      none (Some (Cast j)) a c = c
+      none _ a c = absurd a
   pushed_at p _ s v b e q f h k = absurd f
 
   -- a number of the scope's book is opened
@@ -316,6 +340,10 @@ module _ {X G O F H : Type 0} where
       unit _ i e = absurd i
   at_on w p s t h (at.GrowScope o) Done g a = opened_at w p s o t.call (first_of o.number s.load) t.lent a.1.0 a.1.1 a.1.2 a.1.3 g.0 g.1
   at_on w p s t h (at.GrowScope o) _ g a = ungrown_at p (Open o) s t.call t.lent g.0 g.1 (undo_at p (Open o) s a.1.0 (a.1.1, a.1.2) a.1.3)
+  at_on w p s t h (at.GrowCast k) Done g a = cast_at w p s t k a g.0
+  at_on w p s t h (at.GrowCast k) _ g a = ungrown_at p (Gather k) s t.call t.lent g.0 g.1 (undo_at p (Gather k) s a.1.0 a.1.1 a.1.2)
+  at_on w p s t h (at.DealPieces k) Done g a = (a.1.1.0, (a.1.3, a.1.1.0, a.1.2, refl, whole_as p (Gather k) a.1.0 tt))
+  at_on w p s t h (at.DealPieces k) _ g a = undo_at p (Gather k) s a.1.0 a.1.1 a.1.2
   at_on w p s t h (at.OpenSlot n) Done g a = numbered_at p n s t.slot a.1.0 a.1.1 a.1.2 a.1.3
   at_on w p s t h (at.OpenSlot n) _ g a = unnumbered_at p n (record s { slot = t.slot }) a.1.0 a.1.1 a.1.2 a.1.3
   at_on w p s t h (at.CloseSlot n) _ g a = unnumbered_at p n (record s { held = false }) a.1.0 a.1.1 a.1.2 a.1.3
@@ -351,7 +379,7 @@ module _ {X G O F H : Type 0} where
   guest_needs u q y r a = subst (λ (z : Party). Needs (act_of z y) (hand u)) (sym a.0) a.1.1.0
 
   pub guest_stays : (u : Visit X G O F H) (q : Party) (m : Move) (y : Place) → place_of m ≡ Some y → (q ≡ Caller 0) × Stands (hand u) m → (q ≡ Caller 0) × Stands (hand u) (Stay y)
-  guest_stays u q m y e a = stays_at (λ (v : Visit X G O F H) k. (q ≡ Caller 0) × Stands (hand v) k) (λ v z c k b. absurd b.1.1) (λ v z n b. absurd b.1.1) u m y e a
+  guest_stays u q m y e a = stays_at (λ (v : Visit X G O F H) k. (q ≡ Caller 0) × Stands (hand v) k) (λ v z c k b. b) (λ v z n b. absurd b.1.1) u m y e a
 
   pub guest_on : (u v : Visit X G O F H) (h : PoolShape) (q : Party) (y : Place) (x : Seen) → is_rest y ≡ false → (q ≡ Caller 0) × Stands (hand u) (Stay y) → Does (act_of q y) x u v → (q ≡ Caller 0) × Stands (hand v) (next_of h q y x)
   guest_on u v h q y x r a d =

@@ -1,5 +1,5 @@
 -- What an outside caller has for the time of one call, and what each act of the call does to it.
-use Rattle.std.specs.Prelude.{◌≡◌, ◌⊎◌, ℕ, ◌≤◌, ◌++◌, [], ◌∷◌, List, length, Bool, true, false, if◌then◌else◌, is_some, Option, None, Some, Result}
+use Rattle.std.specs.Prelude.{◌≡◌, ℕ, ◌≤◌, ◌<◌, ◌+◌, ◌^◌, ◌++◌, [], ◌∷◌, List, length, Bool, true, false, if◌then◌else◌, is_some, Option, None, Some, Result}
 use Rattle.rayon_machine_places.specs.declared.place.Count.{Count}
 use Rattle.rayon_machine_places.specs.declared.place.Count.TheVariants.{OfPool, OfScope}
 use Rattle.rayon_machine_places.specs.declared.place.Party.{Party}
@@ -284,9 +284,10 @@ module _ {X G O F H : Type 0} where
   abbrev pub IsLoadOf : TaskOf X → Load X G O F H → Type 0
   IsLoadOf t l = elim t.work [ OneJob j ↦ l ≡ load_with j t.ticket | TwoSides a b k ↦ l ≡ Sides a b | OnePiece ↦ ⊥ | NoJob ↦ ⊥ ]
 
-  -- the pass once the load was pushed, if there was one
+  -- the pass once the load was pushed, if there was one. The pieces of a broadcast go to the workers' lists
   abbrev pub sent : ℕ → ℕ → Option (Load X G O F H) → Visitor (TaskOf X) → Visitor (TaskOf X)
   sent n m None v = v
+  sent n m (Some (Cast j)) v = v
   sent n m (Some w) v = with_pushed v (task_in n m w)
 
   -- the ticket to whose cell the first side's result goes, where there are two
@@ -325,6 +326,7 @@ module _ {X G O F H : Type 0} where
   Needs (acts.SlotUndo c n) s = IsScope (scope_in s.call) c × (s.held ≡ true)
   Needs (acts.LookInj p) s = p ≡ 0
   Needs (acts.PushInj p n b) s = (p ≡ 0) × HasBook b s.call s.held × Packed n s.load s.call s.first
+  Needs (acts.PushCast c) s = IsCast s.load × (c.first + c.workers < 2 ^ 64) × ((n : ℕ) × HasCall n s.call)
   Needs (acts.News p e) s = p ≡ 0
   Needs (acts.Lock p i) s = p ≡ 0
   Needs (acts.Wake p i) s = p ≡ 0
@@ -339,14 +341,14 @@ module _ {X G O F H : Type 0} where
   Needs _ s = ⊥
 
   -- what an act leaves in hand, where t tells which tickets were made and which number was opened: a unit is taken or given
-  -- back, the load is pushed, a book is held or left. A push of pieces leaves the load that t has
+  -- back, the load is pushed, a book is held or left
   abbrev pub after : Act → Seen → Hand X G O F H → Hand X G O F H → Hand X G O F H
   after (acts.Raise (OfPool p) n) x t s = record s { holds = if_done x true s.holds }
   after (acts.Grow c) x t s = record s { call = t.call; first = if_done x (first_of c s.load) s.first; lent = t.lent }
   after (acts.Slot c n) x t s = record s { slot = t.slot; held = if_done x true s.held }
   after (acts.SlotUndo c n) x t s = record s { held = false }
   after (acts.PushInj p n b) x t s = record s { inlet = if_done x (sent n s.slot s.load s.inlet) s.inlet; load = if_done x None s.load; holds = if_done x (unit_after s.load s.holds) s.holds; held = if_done x false s.held }
-  after (acts.PushCast c) x t s = record s { load = t.load }
+  after (acts.PushCast c) x t s = record s { load = if_done x None s.load }
   after (acts.Lower (OfPool p) b) x t s = record s { holds = false }
   after _ x t s = s
 
@@ -362,16 +364,10 @@ module _ {X G O F H : Type 0} where
   LentFor None k old l = l ≡ k
   LentFor (Some w) k old l = l ≡ old
 
-  -- a push of pieces leaves the load as it was; or it takes a job of which each worker gets a piece
-  abbrev pub Dealt : Seen → Option (Load X G O F H) → Option (Load X G O F H) → Type 0
-  Dealt Done k l = (l ≡ k) ⊎ (IsCast k × (l ≡ None))
-  Dealt _ k l = l ≡ k
-
-  -- what tickets an act made, in a pool of so many workers, and what a push left of the load
+  -- what tickets an act made, in a pool of so many workers
   abbrev pub Grown : ℕ → Act → Seen → Hand X G O F H → Hand X G O F H → Type 0
   Grown w (acts.Grow c) Done s t = GrownFor w c s.load t.call × LentFor s.load t.call s.lent t.lent
   Grown w (acts.Grow c) _ s t = (t.call ≡ s.call) × (t.lent ≡ s.lent)
-  Grown w (acts.PushCast c) x s t = Dealt x s.load t.load
   Grown w _ x s t = Unit {0}
 
   -- what it finds

@@ -139,7 +139,7 @@ impl<'a, J: JobKind> Guest<'a, J> {
         place: &'p SharedJob<J>,
         job: J,
     ) -> Result<&'p J, J>
-        requires pieces { pieces.items ≡ pieces_in cast }
+        requires pieces { (self.old.load ≡ None) × (pieces.items ≡ pieces_in cast) }
         ensures step { MatchResult result (λ _. Made (acts.PushCast cast) saw.Done self.old self.new) (λ _. Made (acts.PushCast cast) saw.Refused self.old self.new) }
         ensures job { MatchResult result (λ there. there.now ≡ job) (λ back. back ≡ job) }
     {

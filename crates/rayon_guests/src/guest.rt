@@ -16,7 +16,7 @@ ghost use Rattle.rayon_shared.specs.Marks.{GivesUnit, SetBy, has_book, scope_in,
 ghost use Rattle.rayon_guests.specs.Paths.{CallerGoes};
 ghost use Rattle.rayon_shared.specs.Pools.{shape_of};
 ghost use Rattle.rayon_guests.specs.Visiting.{At, Fits, Keeps, KeepsCall, Kept, Stands, guest_needs, guest_on, guest_stays};
-ghost use Rattle.rayon_guests.specs.Visits.{Does, GrownFor, HasCall, HasLatch, HasLoad, IsAnswer, IsLoadOf, IsTried, LentFor, Needs, NoneSuch, Packed, Raises, Takes, TakesOf, TellsBy, first_of, hand, if_done, opening, sent, task_in, ticket_of, unit_after, with_pushed};
+ghost use Rattle.rayon_guests.specs.Visits.{Does, GrownFor, HasCall, HasLatch, HasLoad, IsAnswer, IsLoadOf, IsTried, LentFor, Needs, NoneSuch, Packed, Raises, Takes, TakesOf, TellsBy, first_of, hand, if_done, opening, sent, task_in, ticket_of, unit_after};
 ghost use Rattle.rayon_queues.specs.Deques.{visitor};
 
 use crate::load::Load;
@@ -138,6 +138,7 @@ impl<'a, J: JobKind> Perform for Guest<'a, J> {
             Act::SlotUndo { .. } => self.close_slot(rt),
             Act::LookInj(_) => yes(self.registry.injector().is_empty(&mut self.inlet)),
             Act::PushInj { job, .. } => self.push(rt, job),
+            Act::PushCast(cast) => self.push_cast(rt, cast),
             Act::News { was_empty, .. } => Seen::Wakes(self.news(rt, was_empty)),
             Act::Lock { worker, .. } => {
                 self.registry.sleep().lock(rt, worker, false);
@@ -270,7 +271,7 @@ impl<'a, J: JobKind> Guest<'a, J> {
     }
 
     // Makes the tickets of a call of this name: one, and where two sides are sent another for the first one's result. A
-    // call without a load opens a scope, of whose ticket its body is lent a share. A broadcast has its own way.
+    // call without a load opens a scope, of whose ticket its body is lent a share.
     fn grow(&mut self, name: u64) -> Seen
         ensures same { self.new ≡ record self.old { call = self.new.call; first = if_done result (first_of name self.old.load) self.old.first; lent = self.new.lent } }
         ensures made { elim result [ saw.Done ↦ GrownFor self.old.shape.workers name self.old.load self.new.call × LentFor self.old.load self.new.call self.old.lent self.new.lent | _ ↦ (self.new.call ≡ self.old.call) × (self.new.lent ≡ self.old.lent) ] }
@@ -283,8 +284,7 @@ impl<'a, J: JobKind> Guest<'a, J> {
         match &self.load {
             None => self.grow_scope(alloc, name),
             Some(Load::Sides(..)) => self.grow_call(alloc, name, true),
-            // its ticket is made with its pieces
-            Some(Load::Cast(_)) => Seen::Refused,
+            Some(Load::Cast(_)) => self.grow_cast(alloc, name),
             Some(_) => self.grow_call(alloc, name, false),
         }
     }
@@ -524,7 +524,7 @@ impl<'a, J: JobKind> Guest<'a, J> {
             (λ found. CallerGoes (Stay (at.RaiseCount plan)) (record self.old { load = Some load }) (record self.new { first_done = found.0; done = found.1 }) Back)
             (λ e. CallerGoes (Stay (at.RaiseCount plan)) (record self.old { load = Some load }) (record self.new { load = Some e.1 }) (HandBack plan)) }
         ensures pushed { MatchResult result
-            (λ _. self.new.inlet ≡ with_pushed self.old.inlet (task_in (plan_job plan) self.new.slot load))
+            (λ _. self.new.inlet ≡ sent (plan_job plan) self.new.slot (Some load) self.old.inlet)
             (λ _. self.new.inlet ≡ self.old.inlet) }
         ensures back { IfErr result (λ e. e.1 ≡ load) }
         ensures refused { IfErr result (λ e. (e.0 ≡ Refusal.Ended) ⊎ (e.0 ≡ Refusal.Full) ⊎ (e.0 ≡ Refusal.NoRoom)) }

@@ -174,7 +174,7 @@ impl<'a, J: JobKind> Guest<'a, J> {
         place: &'p SharedJob<J>,
         job: J,
     ) -> Result<(u64, &'p J), (Refusal, J)>
-        requires scope { IsSome (scope_in self.old.call) }
+        requires scope { (self.old.load ≡ None) × IsSome (scope_in self.old.call) }
         requires count { IsCountOf ticket.now.scope cast.count }
         requires empty { ready.items ≡ [] }
         requires room { cast.workers ≤ vec_capacity ready }
@@ -206,6 +206,7 @@ impl<'a, J: JobKind> Guest<'a, J> {
         place: &'p SharedJob<J>,
         job: J,
     ) -> Result<(u64, &'p J), (Refusal, J)>
+        requires idle { self.old.load ≡ None }
         requires count { IsCountOf ticket.now.scope cast.count }
         requires empty { ready.items ≡ [] }
         requires room { cast.workers ≤ vec_capacity ready }
@@ -273,7 +274,7 @@ impl<'a, J: JobKind> Guest<'a, J> {
         job: J,
     ) -> Result<&'p J, J>
         requires count { IsCountOf ticket.now.scope cast.count }
-        requires numbered { JustNumbered cast number self.old.trace }
+        requires numbered { (self.old.load ≡ None) × JustNumbered cast number self.old.trace }
         requires empty { ready.items ≡ [] }
         requires room { cast.workers ≤ vec_capacity ready }
         requires row { cast.first + cast.workers < 2 ^ 64 }
@@ -301,7 +302,7 @@ impl<'a, J: JobKind> Guest<'a, J> {
         place: &'p SharedJob<J>,
         job: J,
     ) -> Result<&'p J, J>
-        requires pieces { AreTasksOf (Caller 0) self.old.trace cast pieces.items }
+        requires pieces { (self.old.load ≡ None) × AreTasksOf (Caller 0) self.old.trace cast pieces.items }
         ensures step { MatchResult result (λ _. Made (acts.PushCast cast) saw.Done self.old self.new) (λ _. Made (acts.PushCast cast) saw.Refused self.old self.new) }
         ensures same { self.new ≡ record self.old { trace = self.new.trace } }
         ensures job { MatchResult result (λ there. there.now ≡ job) (λ back. back ≡ job) }

@@ -1,45 +1,29 @@
 -- How an outside caller's broadcast into a scope goes, from act to act.
-use Rattle.std.specs.Prelude.{ℕ, Bool, Option}
+use Rattle.std.specs.Prelude.{ℕ, Option}
 use Rattle.std.proofs.Common.{Some, ◌≡◌, ◌⊎◌, inl, inr, true, false, true≢false, refl, sym, subst, ap, ◌∙◌}
 use Rattle.rayon_machine_places.specs.declared.act.Act.TheVariants as acts
 use Rattle.rayon_machine_places.specs.declared.act.Seen.TheVariants.{Done, Opened, Refused}
 use Rattle.rayon_machine_places.specs.declared.place.Count.{Count}
-use Rattle.rayon_machine_places.specs.declared.place.Count.TheVariants.{OfScope}
 use Rattle.rayon_machine_places.specs.declared.place.Entry.{Entry}
 use Rattle.rayon_machine_places.specs.declared.place.Mark.TheVariants.{Counted, Numbered, Queued, Returned, Unnumbered}
 use Rattle.rayon_machine_places.specs.declared.place.Move.{Move}
 use Rattle.rayon_machine_places.specs.declared.place.Move.TheVariants.{Back, HandAllBack, Mark, Stay}
-use Rattle.rayon_machine_places.specs.declared.place.Party.{Party}
-use Rattle.rayon_machine_places.specs.declared.place.Party.TheVariants.{Caller, Worker}
+use Rattle.rayon_machine_places.specs.declared.place.Party.TheVariants.{Caller}
 use Rattle.rayon_machine_places.specs.declared.place.Pieces.{Pieces}
 use Rattle.rayon_machine_places.specs.declared.place.Place.{Place}
 use Rattle.rayon_machine_places.specs.declared.place.Place.TheVariants as at
-use Rattle.rayon_machine_places.specs.declared.place.Plan.{Plan}
-use Rattle.rayon_machine_places.specs.declared.place.Then.TheVariants.{Resume}
 use Rattle.rayon_machine_places.specs.declared.shape.PoolShape.{PoolShape}
 use Rattle.rayon_machine_places.specs.Places.{call_all, end_cast, ends_count, is_rest}
 use Rattle.rayon_drive.proofs.Paths.{driven_from, goes_on}
 use Rattle.rayon_shared.specs.Casts.{cast_into}
-use Rattle.rayon_shared.specs.AtHand.{answer}
-use Rattle.rayon_shared.specs.Marks.{GivesShares, IsCountOf, IsScope, MissesShare, TakesShares, scope_in}
+use Rattle.rayon_shared.specs.Marks.{IsCountOf, IsScope, scope_in}
 use Rattle.rayon_shared.proofs.Shares.{of_scope}
 use Rattle.rayon_tasks.specs.Tickets.{CoreOf, TicketOf}
 use Rattle.rayon_guests.specs.Casts.{CastsInto, EntersForAll, EntersForNone, GoesNumbered, HandsBack, Made, StayUnnumbered}
 use Rattle.rayon_guests.specs.Paths.{calling}
-use Rattle.rayon_guests.specs.Visiting.{At, IsHere, IsWhole, Next, set_call_at}
-use Rattle.rayon_guests.specs.Visits.{Visit, Does, Hand, LowersAll, RaisesAll, SharesAll, SharesNone, hand}
-use Rattle.rayon_guests.proofs.Casts.{Closes, one, over, joined}
+use Rattle.rayon_guests.specs.Visits.{Visit, Does, Hand, hand}
+use Rattle.rayon_guests.proofs.Casts.{one, joined}
 use Rattle.rayon_guests.proofs.Visits.{So, own_call}
-
--- the latch that is set for a scope's count is no place at rest
-scope_goes : (c : ℕ) (o : Party) → is_rest (ends_count (OfScope c o)) ≡ false
-scope_goes c (Worker p i) = refl
-scope_goes c (Caller n) = refl
-
--- and then the call is over
-pub scope_closes : (c : ℕ) (o : Party) → Closes (Stay (ends_count (OfScope c o)))
-scope_closes c (Worker p i) = tt
-scope_closes c (Caller n) = tt
 
 -- a share of the scope's ticket has the scope whose count the pieces have shares of
 pub share_counts : (e : Entry) (n : ℕ) (c : Pieces) (k : Option TicketOf) (u : TicketOf) → k ≡ Some u → c ≡ cast_into e n → IsScope (scope_in k) e.call → IsCountOf u.scope c.count
@@ -51,73 +35,6 @@ hands_stay_not c y e = absurd (true≢false (ap (λ (m : Move). elim m [ HandAll
 
 mark_stay_not : (c : Pieces) (y : Place) → Mark (ends_count c.count) c Returned ≡ Stay y → is_rest y ≡ true
 mark_stay_not c y e = absurd (true≢false (ap (λ (m : Move). elim m [ Mark z w k ↦ true | _ ↦ false ]) e))
-
-module _ {X G O F H : Type 0} (c : Pieces) (s t : Visit X G O F H) (is : IsCountOf (scope_in s.call) c.count) (left : t ≡ record s { tally = t.tally; trace = t.trace }) where
-  same_hand : hand t ≡ hand s
-  same_hand = ap (λ (v : Visit X G O F H). hand v) left
-
-  same_finds : (t.done ≡ s.done) × (t.first_done ≡ s.first_done) × (t.outcome ≡ s.outcome)
-  same_finds = (ap (λ (v : Visit X G O F H). v.done) left, ap (λ (v : Visit X G O F H). v.first_done) left, ap (λ (v : Visit X G O F H). v.outcome) left)
-
-  same_count : t.marks.count ≡ s.marks.count
-  same_count = ap (λ (v : Visit X G O F H). v.marks.count) left
-
-  -- a share is taken for each piece, by a step of the scope's count
-  pub shares_raised : TakesShares c.workers (scope_in s.call) t.tally → Does (acts.RaiseAll c) Done s t
-  shares_raised a = (
-    same_hand,
-    ap (λ (v : Visit X G O F H). v.shape) left,
-    ap (λ (v : Visit X G O F H). v.count) left,
-    tt,
-    same_finds,
-    ap (λ (v : Visit X G O F H). v.book) left,
-    (ap (λ (v : Visit X G O F H). v.marks.set) left, of_scope (λ (k : Count). RaisesAll k c.workers Done s.marks.count t.marks.count) (scope_in s.call) c.count is (λ n o e. same_count)),
-    of_scope (λ (k : Count). SharesAll k c.workers Done (scope_in s.call) s.tally t.tally) (scope_in s.call) c.count is (λ n o e. a),
-    ap (λ (v : Visit X G O F H). v.chair) left,
-    tt,
-  )
-
-  -- or they were refused
-  pub shares_missed : MissesShare (scope_in s.call) t.tally → Does (acts.RaiseAll c) Refused s t
-  shares_missed a = (
-    same_hand,
-    ap (λ (v : Visit X G O F H). v.shape) left,
-    ap (λ (v : Visit X G O F H). v.count) left,
-    tt,
-    same_finds,
-    ap (λ (v : Visit X G O F H). v.book) left,
-    (ap (λ (v : Visit X G O F H). v.marks.set) left, of_scope (λ (k : Count). RaisesAll k c.workers Refused s.marks.count t.marks.count) (scope_in s.call) c.count is (λ n o e. same_count)),
-    of_scope (λ (k : Count). SharesAll k c.workers Refused (scope_in s.call) s.tally t.tally) (scope_in s.call) c.count is (λ n o e. a),
-    ap (λ (v : Visit X G O F H). v.chair) left,
-    tt,
-  )
-
-  -- they are given back
-  pub shares_lowered : (b : Bool) → GivesShares c.workers (scope_in s.call) b t.tally → Does (acts.LowerAll c) (answer b) s t
-  shares_lowered true a = (
-    same_hand,
-    ap (λ (v : Visit X G O F H). v.shape) left,
-    ap (λ (v : Visit X G O F H). v.count) left,
-    tt,
-    same_finds,
-    ap (λ (v : Visit X G O F H). v.book) left,
-    (ap (λ (v : Visit X G O F H). v.marks.set) left, of_scope (λ (k : Count). LowersAll k c.workers (answer true) s.marks.count t.marks.count) (scope_in s.call) c.count is (λ n o e. same_count)),
-    of_scope (λ (k : Count). SharesNone k c.workers (answer true) (scope_in s.call) s.tally t.tally) (scope_in s.call) c.count is (λ n o e. a),
-    ap (λ (v : Visit X G O F H). v.chair) left,
-    tt,
-  )
-  shares_lowered false a = (
-    same_hand,
-    ap (λ (v : Visit X G O F H). v.shape) left,
-    ap (λ (v : Visit X G O F H). v.count) left,
-    tt,
-    same_finds,
-    ap (λ (v : Visit X G O F H). v.book) left,
-    (ap (λ (v : Visit X G O F H). v.marks.set) left, of_scope (λ (k : Count). LowersAll k c.workers (answer false) s.marks.count t.marks.count) (scope_in s.call) c.count is (λ n o e. same_count)),
-    of_scope (λ (k : Count). SharesNone k c.workers (answer false) (scope_in s.call) s.tally t.tally) (scope_in s.call) c.count is (λ n o e. a),
-    ap (λ (v : Visit X G O F H). v.chair) left,
-    tt,
-  )
 
 module _ {X G O F H : Type 0} where
   -- a share is taken for each piece, or they were refused
@@ -156,18 +73,6 @@ module _ {X G O F H : Type 0} where
   then_back : (c : Pieces) (m k : Move) (s u t : Visit X G O F H) → u.shape ≡ s.shape → So s.shape m s k u → HandsBack k c u t → HandsBack m c s t
   then_back c m k s u t same d (inl p) = inl (joined s.shape m k (HandAllBack c) s u t d (subst (λ (h : PoolShape). So h k u (HandAllBack c) t) same p))
   then_back c m k s u t same d (inr p) = inr (p.0, joined s.shape m k (Mark (ends_count c.count) c Returned) s u p.0 d (subst (λ (h : PoolShape). So h k u (Mark (ends_count c.count) c Returned) p.0) same p.1), p.2)
-
-  -- the latch of the scope is set, since the shares were the last of its count
-  pub scope_ended : (h : PoolShape) (e : Entry) (n : ℕ) (c : Pieces) (p : Place) (s u : Visit X G O F H) → c ≡ cast_into e n → p ≡ ends_count (OfScope e.call e.owner) → So h (Stay p) s Back u → So h (Mark (ends_count c.count) c Returned) s Back u
-  scope_ended h e n c p s u is at_end d =
-      let k = OfScope e.call e.owner in
-      let there = subst (λ (y : Place). So h (Stay y) s Back u) at_end d in
-      let marked = driven_from (λ (j : Visit X G O F H) y w q. Does y w j q) (λ (j : Visit X G O F H). j.trace) h (Caller 0) (Mark (ends_count k) c Returned) (ends_count k) s u Back refl (scope_goes e.call e.owner) over there in
-      subst (λ (z : Count). So h (Mark (ends_count z) c Returned) s Back u) (sym (ap (λ (z : Pieces). z.count) is)) marked
-
-  -- there the caller has the scope's ticket in hand, and no load
-  pub scope_end_at : (q : Plan) (e : Entry) (p : Place) (s : Hand X G O F H) → IsWhole q → p ≡ ends_count (OfScope e.call e.owner) → IsScope (scope_in s.call) e.call → IsHere e.owner → Next q s Back → At q s (Stay p)
-  scope_end_at q e p s w at_end is here next = subst (λ (y : Place). At q s (Stay y)) (sym at_end) (set_call_at q s e.call e.owner Resume is here next)
 
   module _ (e : Entry) (n : ℕ) (s t u v : Visit X G O F H) (same : u.shape ≡ s.shape) (raised : Made (acts.RaiseAll (cast_into e n)) Done s t) where
     -- the pieces got numbers and were queued, and each worker was called

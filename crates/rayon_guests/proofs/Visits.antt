@@ -7,7 +7,7 @@ use Rattle.rayon_machine_places.specs.declared.place.Party.TheVariants.{Caller}
 use Rattle.rayon_machine_places.specs.declared.place.Entry.{Entry}
 use Rattle.rayon_machine_places.specs.declared.place.OpenCall.{OpenCall}
 use Rattle.rayon_machine_places.specs.declared.place.Plan.{Plan}
-use Rattle.rayon_machine_places.specs.declared.place.Plan.TheVariants.{Detach, Enter, Gather, Open, Send}
+use Rattle.rayon_machine_places.specs.declared.place.Plan.TheVariants.{Detach, Enter, Gather, Here, Open, Send}
 use Rattle.rayon_machine_places.specs.declared.place.Place.{Place}
 use Rattle.rayon_machine_places.specs.declared.place.Place.TheVariants as at
 use Rattle.rayon_machine_places.specs.declared.place.Move.{Move}
@@ -28,7 +28,7 @@ use Rattle.rayon_guests.specs.declared.load.Load.{Load}
 use Rattle.rayon_guests.specs.declared.load.Load.TheVariants.{Cast}
 use Rattle.rayon_guests.specs.Paths.{Enters, EntersHere, EntersNone, EntersNoneHere, calling}
 use Rattle.rayon_guests.specs.Visits.{Visit, Hand, Does, IsCast, after, call_of, hand, opening, sent}
-use Rattle.rayon_guests.specs.Visiting.{At, Fits, IsEnter, IsScoped, IsSend, KeepsCall, Kept, KeptIn, IsWhole, at_on}
+use Rattle.rayon_guests.specs.Visiting.{At, Fits, HandsAll, IsEnter, IsScoped, IsSend, KeepsCall, Kept, KeptIn, IsWhole, at_on}
 
 -- a call that sends its load keeps no ticket of a scope
 not_sent : (p n : Plan) (k l : Option TicketOf) → n ≡ p → IsSend n → KeepsCall p k l
@@ -143,6 +143,11 @@ module _ {X G O F H : Type 0} where
   load_whole (Enter e) l k f = tt
   load_whole (Gather g) l k f = tt
   load_whole _ l k f = absurd f
+
+  -- and none hands pieces back
+  pub hands_none : (p : Plan) (l : Load X G O F H) (k : Option TicketOf) → Fits p (Some l) k → HandsAll p → ⊥
+  hands_none (Here r n) l k f h = f
+  hands_none _ l k f h = h
 
   -- a scope's body begins to run, under the name of its call
   pub begun : (s t : Visit X G O F H) (o : OpenCall) (y : Place) (n k : ℕ) → o ≡ call_of k → At (Open o) (hand t) (StartRun y n) → So s.shape (Stay (at.RaiseCount (Open o))) s (StartRun y n) t → So s.shape (Stay (at.RaiseCount (opening k))) s (StartRun (at.ScopeBody (call_of k)) k) t

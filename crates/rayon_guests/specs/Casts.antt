@@ -1,9 +1,8 @@
 -- How an outside caller broadcasts and waits for nothing, or into a scope: all pieces are queued at once, and each worker is
 -- called.
-use Rattle.std.specs.Prelude.{◌≡◌, ◌⊎◌, ℕ, List, Option}
+use Rattle.std.specs.Prelude.{◌≡◌, ◌⊎◌, ℕ, Option}
 use Rattle.rayon_machine_places.specs.declared.act.Act.{Act}
 use Rattle.rayon_machine_places.specs.declared.act.Seen.{Seen}
-use Rattle.rayon_machine_places.specs.declared.place.Count.TheVariants.{OfPool}
 use Rattle.rayon_machine_places.specs.declared.place.Entry.{Entry}
 use Rattle.rayon_machine_places.specs.declared.place.Mark.TheVariants.{Counted, Numbered, Queued, Returned, Unnumbered}
 use Rattle.rayon_machine_places.specs.declared.place.Move.{Move}
@@ -13,19 +12,9 @@ use Rattle.rayon_machine_places.specs.declared.place.Place.TheVariants as at
 use Rattle.rayon_machine_places.specs.Places.{call_all, ends_count}
 use Rattle.rayon_drive.specs.Traces.{Adds}
 use Rattle.rayon_shared.specs.Casts.{cast_into}
-use Rattle.rayon_tasks.specs.Pieces.{pieces_for}
-use Rattle.rayon_tasks.specs.Tasks.{TaskOf}
 use Rattle.rayon_tasks.specs.Tickets.{TicketOf}
 use Rattle.rayon_guests.specs.Paths.{CallerGoes, CallerGoesIn, calling}
-use Rattle.rayon_guests.specs.Visits.{Visit, Does, detached_ticket, hand}
-
--- the pieces of a broadcast to the one pool that there is, of so many workers, under names in a row of which this is the first
-abbrev pub cast_of : ℕ → ℕ → Pieces
-cast_of first n = record { count = OfPool 0; pool = 0; first = first; workers = n }
-
--- they are detached, each under its name
-abbrev pub pieces_in : {X : Type 0} → Pieces → List (TaskOf X)
-pieces_in c = pieces_for (detached_ticket c.first) c.first c.workers
+use Rattle.rayon_guests.specs.Visits.{Visit, Does, hand}
 
 module _ {X G O F H : Type 0} where
   -- an act was made, and has the one entry that the trace has more

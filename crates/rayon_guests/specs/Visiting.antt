@@ -1,7 +1,8 @@
 -- What an outside caller has at each place of its calls.
 use Rattle.std.specs.Prelude.{◌≡◌, ℕ, ◌+◌, ◌<◌, ◌^◌, nat_lt, ◌&&◌, if◌then◌else◌, is_some, Bool, true, false, Option, None, Some}
 use Rattle.std.proofs.Common.{refl, sym, subst, ap, ◌∙◌}
-use Rattle.rayon_machine_places.specs.declared.place.Count.TheVariants.{OfPool, OfScope}
+use Rattle.rayon_machine_places.specs.declared.place.Count.{Count}
+use Rattle.rayon_machine_places.specs.declared.place.Count.TheVariants.{OfCast, OfPool, OfScope}
 use Rattle.rayon_machine_places.specs.declared.place.Party.{Party}
 use Rattle.rayon_machine_places.specs.declared.place.Party.TheVariants.{Worker, Caller}
 use Rattle.rayon_machine_places.specs.declared.act.Act.TheVariants as acts
@@ -10,17 +11,18 @@ use Rattle.rayon_machine_places.specs.declared.place.Latch.{Latch}
 use Rattle.rayon_machine_places.specs.declared.place.Latch.TheVariants.{Terminate, OfCall}
 use Rattle.rayon_machine_places.specs.declared.place.OpenCall.{OpenCall}
 use Rattle.rayon_machine_places.specs.declared.place.Plan.{Plan}
-use Rattle.rayon_machine_places.specs.declared.place.Plan.TheVariants.{Send, Detach, Open, Enter, Gather}
+use Rattle.rayon_machine_places.specs.declared.place.Plan.TheVariants.{Send, Detach, Here, Open, Enter, Gather}
 use Rattle.rayon_machine_places.specs.declared.place.Then.{Then}
+use Rattle.rayon_machine_places.specs.declared.place.Then.TheVariants.{Resume}
 use Rattle.rayon_machine_places.specs.declared.place.Settling.{Settling}
 use Rattle.rayon_machine_places.specs.declared.place.Place.{Place}
 use Rattle.rayon_machine_places.specs.declared.place.Place.TheVariants as at
 use Rattle.rayon_machine_places.specs.declared.place.Move.{Move}
-use Rattle.rayon_machine_places.specs.declared.place.Move.TheVariants.{Stay, Back, HandBack, Mark, StartRun}
+use Rattle.rayon_machine_places.specs.declared.place.Move.TheVariants.{Stay, Back, HandAllBack, HandBack, Mark, StartRun}
 use Rattle.rayon_machine_places.specs.declared.act.Seen.{Seen}
 use Rattle.rayon_machine_places.specs.declared.act.Seen.TheVariants.{Done, Yes, Wakes, Found}
 use Rattle.rayon_machine_places.specs.declared.shape.PoolShape.{PoolShape}
-use Rattle.rayon_machine_places.specs.Places.{act_of, next_of, finish, walk, set_call, settle, after_set, after_news, after_push, after_raise, after_slot, plan_call, plan_job, plan_pool, undo, is_rest}
+use Rattle.rayon_machine_places.specs.Places.{act_of, ends_count, next_of, finish, walk, set_call, settle, after_set, after_news, after_push, after_raise, after_slot, plan_call, plan_job, plan_pool, undo, is_rest}
 use Rattle.rayon_drive.specs.Moves.{stays_at}
 use Rattle.rayon_drive.specs.Paths.{place_of}
 use Rattle.rayon_queues.specs.Deques.{Visitor}
@@ -30,12 +32,17 @@ use Rattle.rayon_guests.specs.declared.load.Load.{Load}
 use Rattle.rayon_guests.specs.declared.load.Load.TheVariants.{Cast, Job, Sides, Detached, Scoped}
 use Rattle.rayon_shared.specs.AtHand.{HasTicket}
 use Rattle.rayon_shared.specs.Marks.{IsScope, scope_in}
-use Rattle.rayon_guests.specs.Visits.{Visit, Hand, hand, Needs, Does, Grown, GrownFor, HasCall, IsCast, IsNewCast, IsNewScope, LentFor, Packed, after, detached_ticket, first_of, if_done, sent, ticket_of, unit_after}
+use Rattle.rayon_guests.specs.Visits.{Visit, Hand, hand, Needs, Does, Grown, GrownFor, HasCall, HasCount, IsCast, IsNewScope, LentFor, Packed, after, detached_ticket, first_of, if_done, sent, ticket_of, unit_after}
 
 -- who waits for a scope's end is a worker of the one pool that there is, or an outside caller
 abbrev pub IsHere : Party → Type 0
 IsHere (Worker r i) = r ≡ 0
 IsHere (Caller n) = Unit {0}
+
+-- so is who waits for this count to be 0
+abbrev pub WaitsHere : Count → Type 0
+WaitsHere (OfScope c q) = IsHere q
+WaitsHere _ = Unit {0}
 
 -- a call that waits for what it queues
 abbrev pub IsSend : Plan → Type 0
@@ -51,6 +58,11 @@ IsWhole _ = Unit {0}
 abbrev pub IsEnter : Plan → Type 0
 IsEnter (Enter e) = Unit {0}
 IsEnter _ = ⊥
+
+-- pieces are handed back under this plan: no caller runs a job at once, so it stands for no other call
+abbrev pub HandsAll : Plan → Type 0
+HandsAll (Here p n) = Unit {0}
+HandsAll _ = ⊥
 
 -- whether a call holds a unit of the terminate count: a spawn into a scope has a share of the scope's count in its place
 abbrev pub has_unit : Plan → Bool
@@ -132,6 +144,7 @@ module _ {X G O F H : Type 0} where
   Holds p s (at.StoreBody o e) = Next p s (Stay (at.WaitForLock o))
   Holds p s (at.LowerCount (OfPool r) b t) = Next p (record s { holds = false }) (finish (Caller 0) t)
   Holds p s (at.LowerCount (OfScope c q) b t) = IsHere q × Next p s (finish (Caller 0) t)
+  Holds p s (at.LowerForAll c) = HandsAll p × WaitsHere c.count × Next p s Back
   Holds p s (at.SetLatch x) = Next p s (finish (Caller 0) x.then)
   Holds p s (at.LockToSettle x) = Next p s (finish (Caller 0) x.then)
   Holds p s (at.WakeSettled x) = Next p s (finish (Caller 0) x.then)
@@ -154,6 +167,7 @@ module _ {X G O F H : Type 0} where
   At p s (Mark y c k) = Needs (act_of (Caller 0) y) s × Holds p s y
   At p s Back = Next p s Back
   At p s (HandBack n) = Next p s (HandBack n)
+  At p s (HandAllBack c) = HandsAll p × Next p s Back
   At p s (StartRun y n) = Opened p s n y
   At p s _ = ⊥
 
@@ -199,9 +213,15 @@ module _ {X G O F H : Type 0} where
   after_set_at p s h x (OfCall c) e a = next_at p s (finish (Caller 0) x.then) a
 
   -- the latch of a scope is set for who waits for its end
-  pub set_call_at : (p : Plan) (s : Hand X G O F H) (c : ℕ) (q : Party) (t : Then) → IsScope (scope_in s.call) c → IsHere q → Next p s (finish (Caller 0) t) → At p s (Stay (set_call c q t))
+  set_call_at : (p : Plan) (s : Hand X G O F H) (c : ℕ) (q : Party) (t : Then) → IsScope (scope_in s.call) c → IsHere q → Next p s (finish (Caller 0) t) → At p s (Stay (set_call c q t))
   set_call_at p s c (Worker r i) t w e a = ((e, of_scope c s.call w), a)
   set_call_at p s c (Caller n) t w e a = (of_scope c s.call w, a)
+
+  -- or of a pool's workers, or of a scope
+  ends_at : (p : Plan) (s : Hand X G O F H) (c : Count) → HasCount c s.call → WaitsHere c → Next p s Back → At p s (Stay (ends_count c))
+  ends_at p s (OfPool r) e i a = ((e, tt), a)
+  ends_at p s (OfScope n q) e i a = set_call_at p s n q Resume e i a
+  ends_at p s (OfCast n q) e i a = absurd e
 
   detached_packed : (n m : ℕ) (l : Option (Load X G O F H)) (k f : Option TicketOf) → IsDetached (detached_ticket n) l → Packed m l k f
   detached_packed n m (Some (Detached j t)) k f d = (ap (λ (z : TicketOf). z.detached) d, ap (λ (z : TicketOf). z.scope) d)
@@ -272,16 +292,13 @@ module _ {X G O F H : Type 0} where
   cast_at : (w : ℕ) (p : Plan) (s t : Hand X G O F H) (g : Gathering) → At p s (Stay (at.GrowCast g)) → GrownFor w g.call.number s.load t.call → At p (after (acts.Grow g.call.number) Done t s) (Stay (at.DealPieces g))
   cast_at w p s t g a m = ((a.1.1.1, a.1.1.2, (g.call.number, own)), (a.1.0, a.1.1, a.1.2, own))
     where
-      by : (z : Option TicketOf) → IsNewCast w g.call.number z → HasCall g.call.number z
-      by None b = absurd b
-      by (Some u) b = subst (λ (v : TicketOf). HasCall g.call.number (Some v)) (sym b.1) (b.2, refl, refl)
+      by : (l : Option (Load X G O F H)) (k : Option TicketOf) → IsCast l → GrownFor w g.call.number l k → HasCall g.call.number k
+      by (Some (Cast j)) (Some u) i b = subst (λ (v : TicketOf). HasCall g.call.number (Some v)) (sym b.1) (b.2, refl, refl)
+      by (Some (Cast j)) None i b = absurd b
+      by _ k i b = absurd i
 
       own : HasCall g.call.number t.call
-      own = of s.load a.1.1.1 m
-        where
-          of : (l : Option (Load X G O F H)) → IsCast l → GrownFor w g.call.number l t.call → HasCall g.call.number t.call
-          of (Some (Cast j)) i b = by t.call b
-          of _ i b = absurd i
+      own = by s.load t.call a.1.1.1 m
 
   -- the ticket of a scope is made, and its body begins to run
   opened_at : (w : ℕ) (p : Plan) (s : Hand X G O F H) (o : OpenCall) (k f m : Option TicketOf) → Open o ≡ p → o.pool ≡ 0 → s.load ≡ None → s.holds ≡ true → GrownFor w o.number s.load k → LentFor s.load k s.lent m → Opened p (record s { call = k; first = f; lent = m }) o.job (at.ScopeBody o)
@@ -365,6 +382,8 @@ module _ {X G O F H : Type 0} where
   at_on w p s t h (at.LowerCount (OfPool r) b c) _ g a = next_at p (record s { holds = false }) (finish (Caller 0) c) a.1
   at_on w p s t h (at.LowerCount (OfScope n q) b c) Yes g a = set_call_at p s n q c a.0 a.1.0 a.1.1
   at_on w p s t h (at.LowerCount (OfScope n q) b c) _ g a = next_at p s (finish (Caller 0) c) a.1.1
+  at_on w p s t h (at.LowerForAll c) Yes g a = ends_at p s c.count a.0 a.1.1 a.1.2
+  at_on w p s t h (at.LowerForAll c) _ g a = (a.1.0, a.1.2)
   at_on w p s t h (at.SetLatch x) Yes g a = (a.0.0, a.1)
   at_on w p s t h (at.SetLatch x) _ g a = after_set_at p s h x x.latch a.0.0 a.1
   at_on w p s t h (at.LockToSettle x) _ g a = a

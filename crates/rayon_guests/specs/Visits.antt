@@ -129,6 +129,12 @@ abbrev pub HasLatch : Latch → Option TicketOf → Type 0
 HasLatch Terminate k = Unit {0}
 HasLatch (OfCall c) k = HasTicket k (Some c)
 
+-- the count is that of the one pool that there is, or of the scope whose ticket is in hand
+abbrev pub HasCount : Count → Option TicketOf → Type 0
+HasCount (OfPool p) k = p ≡ 0
+HasCount (OfScope c o) k = IsScope (scope_in k) c
+HasCount _ k = ⊥
+
 -- the latch is none: of a worker that a pool of so many does not have, or of a call for which no worker waits
 abbrev pub NoneSuch : Latch → ℕ → ℕ → Option TicketOf → Type 0
 NoneSuch Terminate i n k = n ≤ i
@@ -210,10 +216,10 @@ RaisesAll (OfScope c o) n x v w = w ≡ v
 RaisesAll _ n x v w = ⊥
 
 -- so many are given back in one step, which were the pool's last or not
-abbrev pub LowersAll : Count → ℕ → Seen → Teller → Teller → Type 0
-LowersAll (OfPool p) n x v w = GivesUnits n (is_yes x) v w
-LowersAll (OfScope c o) n x v w = w ≡ v
-LowersAll _ n x v w = ⊥
+abbrev pub LowersAll : Count → ℕ → Bool → Teller → Teller → Type 0
+LowersAll (OfPool p) n b v w = GivesUnits n b v w
+LowersAll (OfScope c o) n b v w = w ≡ v
+LowersAll _ n b v w = ⊥
 
 -- so many shares of this scope's count are taken in one step, by a seat that is made for it, or were refused. A step of another
 -- count leaves the seat of such a step as it was
@@ -223,9 +229,9 @@ SharesAll (OfScope c o) n _ k v w = MissesShare k w
 SharesAll _ n x k v w = w ≡ v
 
 -- so many are given back in one step, by such a seat, which were the last or not
-abbrev pub SharesNone : Count → ℕ → Seen → Option CoreOf → Option Tally → Option Tally → Type 0
-SharesNone (OfScope c o) n x k v w = GivesShares n k (is_yes x) w
-SharesNone _ n x k v w = w ≡ v
+abbrev pub SharesNone : Count → ℕ → Bool → Option CoreOf → Option Tally → Option Tally → Type 0
+SharesNone (OfScope c o) n b k v w = GivesShares n k b w
+SharesNone _ n b k v w = w ≡ v
 
 module _ {G O F : Type 0} where
   -- a result of the first side is found only where two sides were sent
@@ -336,6 +342,7 @@ module _ {X G O F H : Type 0} where
   Needs (acts.Take c) s = HasCall c s.call
   Needs (acts.Lower (OfPool p) b) s = (p ≡ 0) × (s.holds ≡ true)
   Needs (acts.Lower (OfScope c o) b) s = IsScope (scope_in s.call) c
+  Needs (acts.LowerAll c) s = HasCount c.count s.call
   Needs (acts.Set l p i) s = (p ≡ 0) × HasLatch l s.call
   Needs (acts.LockSet c) s = HasTicket s.call (Some c)
   Needs _ s = ⊥
@@ -411,7 +418,7 @@ module _ {X G O F H : Type 0} where
   Marked (acts.SlotUndoAll c) x s t = t.marks ≡ s.marks
   Marked (acts.RaiseAll c) x s t = (t.marks.set ≡ s.marks.set) × RaisesAll c.count c.workers x s.marks.count t.marks.count
   Marked (acts.PushCast c) x s t = t.marks ≡ s.marks
-  Marked (acts.LowerAll c) x s t = (t.marks.set ≡ s.marks.set) × LowersAll c.count c.workers x s.marks.count t.marks.count
+  Marked (acts.LowerAll c) x s t = (t.marks.set ≡ s.marks.set) × LowersAll c.count c.workers (is_yes x) s.marks.count t.marks.count
   Marked _ x s t = ⊥
 
   -- to the seat by which it stepped on a scope's count
@@ -420,7 +427,7 @@ module _ {X G O F H : Type 0} where
   Shares (acts.Raise (OfScope c o) n) _ s t = MissesShare (scope_in s.call) t.tally
   Shares (acts.Lower (OfScope c o) b) x s t = GivesShare (scope_in s.call) (is_yes x) t.tally
   Shares (acts.RaiseAll c) x s t = SharesAll c.count c.workers x (scope_in s.call) s.tally t.tally
-  Shares (acts.LowerAll c) x s t = SharesNone c.count c.workers x (scope_in s.call) s.tally t.tally
+  Shares (acts.LowerAll c) x s t = SharesNone c.count c.workers (is_yes x) (scope_in s.call) s.tally t.tally
   Shares _ x s t = t.tally ≡ s.tally
 
   -- and to the seat by which news is told

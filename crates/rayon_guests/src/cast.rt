@@ -1,23 +1,27 @@
 //! The broadcasts of an outside caller that wait for nothing: one piece for each worker, all queued at once, and then
-//! each worker is called.
-ghost use Rattle.std.specs.Prelude.{◌≡◌, ◌⊎◌, ◌<◌, ◌+◌, ◌^◌, None, true, false, IfOk, IfErr, MatchResult};
+//! each worker is called. What is done for all pieces in one step is done so for those of a scope too.
+ghost use Rattle.std.specs.Prelude.{◌≡◌, ◌⊎◌, ◌<◌, ◌+◌, ◌^◌, None, false, IfOk, IfErr, MatchResult};
 ghost use Rattle.rayon_machine_places.specs.declared.act.Act.TheVariants as acts;
 ghost use Rattle.rayon_machine_places.specs.declared.act.Seen.TheVariants as saw;
-ghost use Rattle.rayon_machine_places.specs.declared.place.Mark.TheVariants.{Queued, Returned};
-ghost use Rattle.rayon_machine_places.specs.declared.place.Move.TheVariants.{Back, HandAllBack, Mark, Stay};
+ghost use Rattle.rayon_machine_places.specs.declared.place.Mark.TheVariants.{Queued};
+ghost use Rattle.rayon_machine_places.specs.declared.place.Move.TheVariants.{Back, Mark, Stay};
+ghost use Rattle.rayon_machine_places.specs.declared.place.Party.TheVariants.{Caller};
 ghost use Rattle.rayon_machine_places.specs.declared.place.Place.TheVariants as at;
-ghost use Rattle.rayon_machine_places.specs.Places.{call_all, ends_count};
-ghost use Rattle.rayon_shared.specs.AtHand.{answer};
-ghost use Rattle.rayon_shared.specs.Marks.{GivesUnits, KeepsAll, MissesUnits, TakesUnits};
-ghost use Rattle.rayon_guests.specs.Casts.{Casts, CastsNone, HandsBack, Made, Same, cast_of, pieces_in};
+ghost use Rattle.rayon_machine_places.specs.Places.{call_all};
+ghost use Rattle.rayon_shared.specs.Casts.{AreTasksOf, cast_tasks, casting};
+ghost use Rattle.rayon_shared.specs.Marks.{KeepsAll, TakesUnits, scope_in};
+ghost use Rattle.rayon_guests.specs.Casts.{Casts, CastsNone, HandsBack, Made, Same};
 ghost use Rattle.rayon_guests.specs.Paths.{CallerGoes};
+ghost use Rattle.rayon_guests.specs.Visiting.{WaitsHere};
+ghost use Rattle.rayon_guests.specs.Visits.{HasCount, LowersAll, SharesNone};
 
-use crate::guest::{Guest, NO_CALL};
+use crate::guest::{ALL_BACK, Guest, NO_CALL};
+use crate::scope::scope_of;
 use rayon_broadcasts::SharedJob;
 use rayon_drive::drive::Perform;
 use rayon_jobs::JobKind;
 use rayon_machine_places::act::{Act, Seen};
-use rayon_machine_places::place::{Count, Latch, Move, Party, Pieces, Place, Settling, Then, Walk};
+use rayon_machine_places::place::{Count, Move, Party, Pieces, Place, Then, Walk};
 use rayon_tasks::{Task, Ticket, pieces_of};
 use rayon_words::Refusal;
 use std::alloc::Global;
@@ -40,8 +44,8 @@ impl<'a, J: JobKind> Guest<'a, J> {
         requires idle { (self.old.load ≡ None) × (self.old.holds ≡ false) }
         requires names { first + self.old.shape.workers < 2 ^ 64 }
         ensures path { MatchResult result
-            (λ _. Casts (cast_of first self.old.shape.workers) self.old self.new)
-            (λ _. CastsNone (cast_of first self.old.shape.workers) self.old self.new) }
+            (λ _. Casts (casting first self.old.shape.workers) self.old self.new)
+            (λ _. CastsNone (casting first self.old.shape.workers) self.old self.new) }
         ensures units { MatchResult result
             (λ _. TakesUnits self.old.shape.workers self.old.marks.count self.new.marks.count)
             (λ _. KeepsAll self.old.shape.workers self.old.marks.count self.new.marks.count) }
@@ -64,7 +68,7 @@ impl<'a, J: JobKind> Guest<'a, J> {
 
     // The pieces of a broadcast to the pool, under names in a row of which this is the first.
     fn cast_from(&self, first: u64) -> Pieces
-        ensures { result ≡ cast_of first self.now.shape.workers }
+        ensures { result ≡ casting first self.now.shape.workers }
     {
         Pieces {
             count: Count::OfPool(0),
@@ -76,6 +80,7 @@ impl<'a, J: JobKind> Guest<'a, J> {
 
     // Takes units for these pieces, queues them and calls each worker. Lends the job as it stands in the place that the
     // pieces share.
+    #[tactic(auto, using(crate::proofs::Casts::are_tasks))]
     fn cast<'p, R: Wait>(
         &mut self,
         rt: &R,
@@ -85,8 +90,8 @@ impl<'a, J: JobKind> Guest<'a, J> {
         job: J,
     ) -> Result<&'p J, (Refusal, J)>
         requires idle { (self.old.load ≡ None) × (self.old.holds ≡ false) }
-        requires cast { cast ≡ cast_of cast.first self.old.shape.workers }
-        requires pieces { pieces.items ≡ pieces_in cast }
+        requires cast { cast ≡ casting cast.first self.old.shape.workers }
+        requires pieces { pieces.items ≡ cast_tasks (Caller 0) cast }
         ensures path { MatchResult result (λ _. Casts cast self.old self.new) (λ _. HandsBack (Stay (at.RaiseForAll cast)) cast self.old self.new) }
         ensures units { MatchResult result
             (λ _. TakesUnits cast.workers self.old.marks.count self.new.marks.count)
@@ -110,16 +115,29 @@ impl<'a, J: JobKind> Guest<'a, J> {
         }
     }
 
-    // Takes a unit of the terminate count for each piece, in one step.
-    fn raise_all<R: Wait>(&mut self, rt: &R, cast: Pieces) -> Result<(), Refusal>
-        requires cast { cast ≡ cast_of cast.first self.old.shape.workers }
+    // Takes a share for each piece, in one step: of the pool's count, or of a scope's by a seat that is made for it.
+    // Refused `Ended`, `Full`.
+    pub(crate) fn raise_all<R: Wait>(&mut self, rt: &R, cast: Pieces) -> Result<(), Refusal>
+        requires { HasCount cast.count self.old.call }
         ensures step { MatchResult result (λ _. Made (acts.RaiseAll cast) saw.Done self.old self.new) (λ _. Made (acts.RaiseAll cast) saw.Refused self.old self.new) }
+        ensures left { self.new ≡ record self.old { marks = record { set = self.old.marks.set; count = self.new.marks.count }; tally = self.new.tally; trace = self.new.trace } }
         ensures refused { IfErr result (λ r. (r ≡ Refusal.Ended) ⊎ (r ≡ Refusal.Full)) }
     {
-        let units = cast.workers as u64;
-        let raised = self
-            .registry
-            .raise_terminate_count(rt, &mut self.count, units);
+        let shares = cast.workers as u64;
+        let raised = match cast.count {
+            Count::OfPool(_) => {
+                self.registry
+                    .raise_terminate_count(rt, &mut self.count, shares)
+            }
+            Count::OfScope { .. } => {
+                let count = scope_of(&self.call).count();
+                let mut seat = count.guest_seat();
+                let raised = count.raise(rt, &mut seat, shares);
+                self.tally = Some(seat);
+                raised
+            }
+            Count::OfCast { .. } => unreachable!(),
+        };
         let seen = if raised.is_ok() {
             Seen::Done
         } else {
@@ -131,7 +149,7 @@ impl<'a, J: JobKind> Guest<'a, J> {
 
     // Puts the job into the place that the pieces share, and each piece last into its worker's list, in one step. Lends
     // the job as it stands there.
-    fn push_all<'p, R: Wait>(
+    pub(crate) fn push_all<'p, R: Wait>(
         &mut self,
         rt: &R,
         cast: Pieces,
@@ -139,8 +157,10 @@ impl<'a, J: JobKind> Guest<'a, J> {
         place: &'p SharedJob<J>,
         job: J,
     ) -> Result<&'p J, J>
-        requires pieces { (self.old.load ≡ None) × (pieces.items ≡ pieces_in cast) }
+        requires load { self.old.load ≡ None }
+        requires pieces { AreTasksOf (Caller 0) self.old.trace cast pieces.items }
         ensures step { MatchResult result (λ _. Made (acts.PushCast cast) saw.Done self.old self.new) (λ _. Made (acts.PushCast cast) saw.Refused self.old self.new) }
+        ensures same { self.new ≡ record self.old { trace = self.new.trace } }
         ensures job { MatchResult result (λ there. there.now ≡ job) (λ back. back ≡ job) }
     {
         match self.registry.casts().push_each(rt, pieces, place, job) {
@@ -155,18 +175,29 @@ impl<'a, J: JobKind> Guest<'a, J> {
         }
     }
 
-    // Gives the units of all pieces back, in one step. True exactly if they were the last.
-    fn lower_all<R: Wait>(&mut self, rt: &R, cast: Pieces) -> bool
-        requires cast { cast ≡ cast_of cast.first self.old.shape.workers }
-        ensures step { Made (acts.LowerAll cast) (answer result) self.old self.new }
+    // Gives the shares of all pieces back, in one step: of the pool's count, or of a scope's by a seat that is made for
+    // it. True exactly if they were the last.
+    pub(crate) fn lower_all<R: Wait>(&mut self, rt: &R, cast: Pieces) -> bool
+        requires { HasCount cast.count self.old.call }
+        ensures same { self.new ≡ record self.old { marks = record { set = self.old.marks.set; count = self.new.marks.count }; tally = self.new.tally } }
+        ensures units { LowersAll cast.count cast.workers result self.old.marks.count self.new.marks.count }
+        ensures shares { SharesNone cast.count cast.workers result (scope_in self.old.call) self.old.tally self.new.tally }
     {
-        let units = cast.workers as u64;
-        let last = self
-            .registry
-            .lower_terminate_count(rt, &mut self.count, units);
-        let seen = if last { Seen::Yes } else { Seen::No };
-        self.trace.add(Act::LowerAll(cast), seen);
-        last
+        let shares = cast.workers as u64;
+        match cast.count {
+            Count::OfPool(_) => {
+                self.registry
+                    .lower_terminate_count(rt, &mut self.count, shares)
+            }
+            Count::OfScope { .. } => {
+                let count = scope_of(&self.call).count();
+                let mut seat = count.guest_seat();
+                let were_last = count.lower(rt, &mut seat, shares);
+                self.tally = Some(seat);
+                were_last
+            }
+            Count::OfCast { .. } => unreachable!(),
+        }
     }
 
     // Calls each worker, from the first one upward.
@@ -189,34 +220,17 @@ impl<'a, J: JobKind> Guest<'a, J> {
         }
     }
 
-    // Gives the units of all pieces back, and sets each worker's terminate latch where they were the last.
-    fn give_all_back<R: Wait>(&mut self, rt: &R, cast: Pieces)
+    // Gives the shares of all pieces back, which were not queued, and where they were the last of their count sets the
+    // latches that wait for it.
+    pub(crate) fn give_all_back<R: Wait>(&mut self, rt: &R, cast: Pieces)
         requires idle { (self.old.load ≡ None) × (self.old.holds ≡ false) }
-        requires cast { cast ≡ cast_of cast.first self.old.shape.workers }
+        requires count { HasCount cast.count self.old.call × WaitsHere cast.count }
         ensures path { HandsBack (Stay (at.LowerForAll cast)) cast self.old self.new }
-        ensures units { (b : _) × GivesUnits cast.workers b self.old.marks.count self.new.marks.count }
+        ensures units { (b : _) × LowersAll cast.count cast.workers b self.old.marks.count self.new.marks.count }
         ensures keeps { Same self.old self.new }
     {
-        if self.lower_all(rt, cast) {
-            self.end_all(rt, cast);
-        }
-    }
-
-    // Sets each worker's terminate latch, from the first one upward.
-    fn end_all<R: Wait>(&mut self, rt: &R, cast: Pieces)
-        requires idle { (self.old.load ≡ None) × (self.old.holds ≡ false) }
-        requires cast { cast ≡ cast_of cast.first self.old.shape.workers }
-        ensures path { CallerGoes (Mark (ends_count cast.count) cast Returned) self.old self.new Back }
-        ensures keeps { Same self.old self.new × (self.new.marks.count ≡ self.old.marks.count) }
-    {
-        let place = Place::SetLatch(Settling {
-            latch: Latch::Terminate,
-            pool: 0,
-            worker: 0,
-            then: Then::Resume,
-        });
-        match self.drive(rt, NO_CALL, place) {
-            Move::Back => {}
+        match self.drive(rt, ALL_BACK, Place::LowerForAll(cast)) {
+            Move::Back | Move::HandAllBack(_) => {}
             _ => unreachable!(),
         }
     }
@@ -229,7 +243,7 @@ fn detached_pieces<J: JobKind>(
     cast: Pieces,
 ) -> Result<Vec<Task<J>>, Refusal>
     requires { cast.first + cast.workers < 2 ^ 64 }
-    ensures made { IfOk result (λ pieces. pieces.items ≡ pieces_in cast) }
+    ensures made { IfOk result (λ pieces. pieces.items ≡ cast_tasks (Caller 0) cast) }
     ensures refused { IfErr result (λ r. r ≡ Refusal.NoRoom) }
 {
     let ticket = Ticket::of_detached(alloc, Party::Caller(0), cast.first)?;

@@ -157,6 +157,7 @@ impl<'a, J: JobKind> Perform for Guest<'a, J> {
                 ..
             } => yes(self.lower(rt)),
             Act::Lower { .. } => yes(self.lower_scope(rt)),
+            Act::LowerAll(cast) => yes(self.lower_all(rt, cast)),
             Act::Set { latch, worker, .. } => yes(self.set(latch, worker)),
             Act::LockSet(_) => self.set_lock_latch(rt),
             _ => unreachable!(),
@@ -186,6 +187,9 @@ const CALLER: Party = Party::Caller(0);
 
 /// The plan under which a drive goes that begins with no call: it can hand nothing back.
 pub(crate) const NO_CALL: Plan = Plan::Detach { pool: 0, job: 0 };
+
+/// The plan under which a drive goes that can hand pieces back.
+pub(crate) const ALL_BACK: Plan = Plan::Here { pool: 0, job: 0 };
 
 impl<'a, J: JobKind> Guest<'a, J> {
     /// An outside caller of this pool that has done nothing yet.

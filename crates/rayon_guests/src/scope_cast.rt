@@ -1,32 +1,25 @@
 //! The broadcasts of an outside caller into a scope: one piece for each worker, all queued at once, each with a share
 //! of the scope's count and a number of the scope's book. The scope is reached by the ticket in hand.
-ghost use Rattle.std.specs.Prelude.{◌≡◌, ◌⊎◌, ◌+◌, ◌<◌, ◌≤◌, ◌^◌, ◌++◌, [], None, Some, IsSome, false, IfErr, IfOk, MatchResult, length, vec_capacity};
+ghost use Rattle.std.specs.Prelude.{◌≡◌, ◌⊎◌, ◌+◌, ◌<◌, ◌≤◌, ◌^◌, ◌++◌, [], None, IsSome, false, IfErr, IfOk, MatchResult, length, vec_capacity};
 ghost use Rattle.rayon_books.specs.Books.{opened};
-ghost use Rattle.rayon_machine_places.specs.Places.{call_all, ends_count};
+ghost use Rattle.rayon_machine_places.specs.Places.{call_all};
 ghost use Rattle.rayon_machine_places.specs.declared.act.Act.TheVariants as acts;
 ghost use Rattle.rayon_machine_places.specs.declared.act.Seen.TheVariants as saw;
-ghost use Rattle.rayon_machine_places.specs.declared.place.Count.TheVariants.{OfScope};
-ghost use Rattle.rayon_machine_places.specs.declared.place.Mark.TheVariants.{Counted, Queued, Returned};
-ghost use Rattle.rayon_machine_places.specs.declared.place.Move.TheVariants.{Back, Mark, Stay};
-ghost use Rattle.rayon_machine_places.specs.declared.place.Party.TheVariants.{Caller};
+ghost use Rattle.rayon_machine_places.specs.declared.place.Mark.TheVariants.{Counted, Queued};
+ghost use Rattle.rayon_machine_places.specs.declared.place.Move.TheVariants.{Mark, Stay};
 ghost use Rattle.rayon_machine_places.specs.declared.place.Place.TheVariants as at;
-ghost use Rattle.rayon_shared.specs.Casts.{AreTasksOf, JustNumbered, cast_into};
-ghost use Rattle.rayon_shared.specs.AtHand.{answer};
-ghost use Rattle.rayon_shared.specs.Marks.{GivesShares, IsCountOf, IsScope, MissesShare, TakesShares, scope_in, tally_in};
+ghost use Rattle.rayon_shared.specs.Casts.{JustNumbered, cast_into};
+ghost use Rattle.rayon_shared.specs.Marks.{IsCountOf, IsScope, scope_in};
 ghost use Rattle.rayon_guests.specs.Casts.{CastsInto, EntersForAll, EntersForNone, GoesNumbered, HandsBack, Made, Same, StayUnnumbered};
-ghost use Rattle.rayon_guests.specs.Paths.{CallerGoes};
 ghost use Rattle.rayon_guests.specs.Visiting.{IsHere};
 
-use crate::guest::{Guest, NO_CALL, share_of};
+use crate::guest::{Guest, share_of};
 use crate::scope::scope_of;
-use rayon_atomics::count::CountSeat;
 use rayon_books::ScopeBook;
 use rayon_broadcasts::SharedJob;
 use rayon_jobs::JobKind;
 use rayon_machine_places::act::{Act, Seen};
-use rayon_machine_places::place::{
-    Count, Entry, Latch, Move, Party, Pieces, Place, Settling, Then,
-};
+use rayon_machine_places::place::{Count, Entry, Pieces};
 use rayon_shared::numbered_pieces;
 use rayon_tasks::{Task, Ticket};
 use rayon_words::Refusal;
@@ -99,7 +92,7 @@ impl<'a, J: JobKind> Guest<'a, J> {
             return Err((Refusal::NoRoom, job));
         };
         let cast = self.cast_to_scope(entry);
-        if let Err(refusal) = self.raise_shares(rt, cast) {
+        if let Err(refusal) = self.raise_all(rt, cast) {
             return Err((refusal, job));
         }
         match self.number_all(rt, cast, &ticket, ready, place, job) {
@@ -108,7 +101,7 @@ impl<'a, J: JobKind> Guest<'a, J> {
                 Ok(numbered)
             }
             Err(refused) => {
-                self.give_shares_back(rt, entry, cast);
+                self.give_all_back(rt, cast);
                 Err(refused)
             }
         }
@@ -127,41 +120,6 @@ impl<'a, J: JobKind> Guest<'a, J> {
             first: entry.job,
             workers: self.shape.workers,
         }
-    }
-
-    // Takes a share of the scope's count for each piece, all in one step, by a seat that is made for it. Refused
-    // `Ended`, `Full`.
-    #[tactic(auto, using(crate::proofs::ScopeCasts::shares_raised, crate::proofs::ScopeCasts::shares_missed, rayon_shared::proofs::Shares::scope_some))]
-    fn raise_shares<R: Wait>(&mut self, rt: &R, cast: Pieces) -> Result<(), Refusal>
-        requires { IsCountOf (scope_in self.old.call) cast.count }
-        ensures step { MatchResult result (λ _. Made (acts.RaiseAll cast) saw.Done self.old self.new) (λ _. Made (acts.RaiseAll cast) saw.Refused self.old self.new) }
-        ensures left { self.new ≡ record self.old { tally = self.new.tally; trace = self.new.trace } }
-        ensures refused { IfErr result (λ r. (r ≡ Refusal.Ended) ⊎ (r ≡ Refusal.Full)) }
-    {
-        let (raised, seat) = self.shares_taken(rt, cast.workers as u64);
-        self.tally = Some(seat);
-        match raised {
-            Ok(()) => {
-                self.trace.add(Act::RaiseAll(cast), Seen::Done);
-                Ok(())
-            }
-            Err(refusal) => {
-                self.trace.add(Act::RaiseAll(cast), Seen::Refused);
-                Err(refusal)
-            }
-        }
-    }
-
-    // So many shares more of the scope's count, and the seat that took them.
-    fn shares_taken<R: Wait>(&self, rt: &R, shares: u64) -> (Result<(), Refusal>, CountSeat)
-        requires { IsSome (scope_in self.now.call) }
-        ensures taken { MatchResult result.0 (λ _. TakesShares shares (scope_in self.now.call) (tally_in (Some result.1))) (λ _. MissesShare (scope_in self.now.call) (tally_in (Some result.1))) }
-        ensures refused { IfErr result.0 (λ r. (r ≡ Refusal.Ended) ⊎ (r ≡ Refusal.Full)) }
-    {
-        let count = scope_of(&self.call).count();
-        let mut seat = count.guest_seat();
-        let raised = count.raise(rt, &mut seat, shares);
-        (raised, seat)
     }
 
     // With the scope's book held, numbers the pieces and queues them.
@@ -284,114 +242,11 @@ impl<'a, J: JobKind> Guest<'a, J> {
         ensures step { MatchResult result (λ _. Made (acts.PushCast cast) saw.Done self.old self.new) (λ _. Made (acts.PushCast cast) saw.Refused self.old self.new) }
     {
         match numbered_pieces(ready, place, ticket, cast.first, number, cast.workers) {
-            Some(pieces) => self.push_into(rt, cast, pieces, place, job),
+            Some(pieces) => self.push_all(rt, cast, pieces, place, job),
             None => {
                 self.trace.add(Act::PushCast(cast), Seen::Refused);
                 Err(job)
             }
         }
-    }
-
-    // Puts the job into the place that the pieces share, and each piece last into its worker's list, in one step. Lends
-    // the job as it stands there.
-    fn push_into<'p, R: Wait>(
-        &mut self,
-        rt: &R,
-        cast: Pieces,
-        pieces: Vec<Task<J>>,
-        place: &'p SharedJob<J>,
-        job: J,
-    ) -> Result<&'p J, J>
-        requires pieces { (self.old.load ≡ None) × AreTasksOf (Caller 0) self.old.trace cast pieces.items }
-        ensures step { MatchResult result (λ _. Made (acts.PushCast cast) saw.Done self.old self.new) (λ _. Made (acts.PushCast cast) saw.Refused self.old self.new) }
-        ensures same { self.new ≡ record self.old { trace = self.new.trace } }
-        ensures job { MatchResult result (λ there. there.now ≡ job) (λ back. back ≡ job) }
-    {
-        match self.registry.casts().push_each(rt, pieces, place, job) {
-            Ok(there) => {
-                self.trace.add(Act::PushCast(cast), Seen::Done);
-                Ok(there)
-            }
-            Err((_, job)) => {
-                self.trace.add(Act::PushCast(cast), Seen::Refused);
-                Err(job)
-            }
-        }
-    }
-
-    // Gives the shares of the pieces back, which were not queued, and where they were the last of the scope's count
-    // sets the latch of the scope's call.
-    fn give_shares_back<R: Wait>(&mut self, rt: &R, entry: Entry, cast: Pieces)
-        requires idle { (self.old.load ≡ None) × (self.old.holds ≡ false) }
-        requires scope { IsScope (scope_in self.old.call) entry.call }
-        requires here { IsHere entry.owner }
-        requires cast { cast ≡ cast_into entry self.old.shape.workers }
-        ensures path { HandsBack (Stay (at.LowerForAll cast)) cast self.old self.new }
-        ensures keeps { Same self.old self.new × (self.new.marks.count ≡ self.old.marks.count) }
-    {
-        if self.lower_shares(rt, cast) {
-            self.end_scope(rt, entry, cast);
-        }
-    }
-
-    // Gives a share of the scope's count back for each piece, all in one step, by a seat that is made for it. True
-    // exactly if they were the last.
-    #[tactic(auto, using(crate::proofs::ScopeCasts::shares_lowered, rayon_shared::proofs::Shares::scope_some))]
-    fn lower_shares<R: Wait>(&mut self, rt: &R, cast: Pieces) -> bool
-        requires { IsCountOf (scope_in self.old.call) cast.count }
-        ensures step { Made (acts.LowerAll cast) (answer result) self.old self.new }
-        ensures left { self.new ≡ record self.old { tally = self.new.tally; trace = self.new.trace } }
-    {
-        let (were_last, seat) = self.shares_given(rt, cast.workers as u64);
-        self.tally = Some(seat);
-        let seen = if were_last { Seen::Yes } else { Seen::No };
-        self.trace.add(Act::LowerAll(cast), seen);
-        were_last
-    }
-
-    // So many shares of the scope's count fewer, and the seat that gave them back. True exactly if they were the last.
-    fn shares_given<R: Wait>(&self, rt: &R, shares: u64) -> (bool, CountSeat)
-        requires { IsSome (scope_in self.now.call) }
-        ensures { GivesShares shares (scope_in self.now.call) result.0 (tally_in (Some result.1)) }
-    {
-        let count = scope_of(&self.call).count();
-        let mut seat = count.guest_seat();
-        let were_last = count.lower(rt, &mut seat, shares);
-        (were_last, seat)
-    }
-
-    // Sets the latch of the scope of this entry, for whoever waits for its end.
-    fn end_scope<R: Wait>(&mut self, rt: &R, entry: Entry, cast: Pieces)
-        requires idle { (self.old.load ≡ None) × (self.old.holds ≡ false) }
-        requires scope { IsScope (scope_in self.old.call) entry.call }
-        requires here { IsHere entry.owner }
-        requires cast { cast ≡ cast_into entry self.old.shape.workers }
-        ensures path { CallerGoes (Mark (ends_count cast.count) cast Returned) self.old self.new Back }
-        ensures keeps { Same self.old self.new × (self.new.marks.count ≡ self.old.marks.count) }
-    {
-        let place = scope_latch(entry);
-        match self.drive(rt, NO_CALL, place) {
-            Move::Back => {}
-            _ => unreachable!(),
-        }
-    }
-}
-
-// Sets the latch of the scope of this entry: a worker's core latch, or an outside caller's lock latch.
-fn scope_latch(entry: Entry) -> Place
-    ensures { result ≡ ends_count (OfScope entry.call entry.owner) }
-{
-    let Entry { call, owner, .. } = entry;
-    match owner {
-        Party::Worker { pool, index } => Place::SetLatch(Settling {
-            latch: Latch::OfCall(call),
-            pool,
-            worker: index,
-            then: Then::Resume,
-        }),
-        Party::Caller(_) => Place::SetLockLatch {
-            call,
-            then: Then::Resume,
-        },
     }
 }

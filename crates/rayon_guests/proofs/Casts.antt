@@ -20,7 +20,7 @@ use Rattle.rayon_machine_places.specs.declared.place.Settling.{Settling}
 use Rattle.rayon_machine_places.specs.declared.place.Then.{Then}
 use Rattle.rayon_machine_places.specs.declared.place.Then.TheVariants.{Called, Resume}
 use Rattle.rayon_machine_places.specs.declared.shape.PoolShape.{PoolShape}
-use Rattle.rayon_machine_places.specs.Places.{act_of, after_set, call_all, end_cast, ends_count, finish, is_rest, next_of, settle, walk}
+use Rattle.rayon_machine_places.specs.Places.{act_of, after_set, begin_cast, call_all, end_cast, ends_count, finish, is_rest, next_of, settle, walk}
 use Rattle.rayon_drive.specs.Moves.{stays_at}
 use Rattle.rayon_drive.specs.declared.trace.Log.{Log}
 use Rattle.rayon_drive.specs.Paths.{IsPath, Leads, act_at, goes, onward}
@@ -107,9 +107,13 @@ closes_on h _ _ a = absurd a
 pub are_tasks : {X : Type 0} (c : Pieces) (f n : ℕ) (v : Log) (ts : List (TaskOf X)) → c ≡ casting f n → ts ≡ cast_tasks (Caller 0) c → AreTasksOf (Caller 0) v c ts
 are_tasks c f n v ts e = subst (λ (z : Pieces). ts ≡ cast_tasks (Caller 0) z → AreTasksOf (Caller 0) v z ts) (sym e) (λ a. a)
 
--- where a call is over the table leads to no place
-pub over : (y : Place) → Back ≡ Stay y → is_rest y ≡ true
-over y e = absurd (true≢false (ap (λ (m : Move). elim m [ Back ↦ true | _ ↦ false ]) e))
+-- where a call is over, or pieces are handed back or marked, the table leads to no place alone
+abbrev pub IsNoStay : Move → Type 0
+IsNoStay (Stay y) = ⊥
+IsNoStay _ = Unit {0}
+
+pub no_stay : (m : Move) → IsNoStay m → (y : Place) → m ≡ Stay y → is_rest y ≡ true
+no_stay m i y e = absurd (subst IsNoStay e i)
 
 module _ {X G O F H : Type 0} where
   -- nothing is another but the trace, and the seat by which a latch was set last
@@ -128,7 +132,7 @@ module _ {X G O F H : Type 0} where
   left_by s t _ x a d = absurd a
 
   -- workers are woken or latches are set, and there is nothing else
-  closed : (h : PoolShape) (m n : Move) (s u : Visit X G O F H) → Closes m → So h m s n u → Closes n × Left s u
+  pub closed : (h : PoolShape) (m n : Move) (s u : Visit X G O F H) → Closes m → So h m s n u → Closes n × Left s u
   closed h m n s u c d = driven_keeps (λ (v : Visit X G O F H) x y w. Does x y v w) (λ (v : Visit X G O F H). v.trace) Stood h (Caller 0) (stays_at Stood (λ v y c k b. b) (λ v y k b. absurd b.0)) keeps m s u n (c, ((refl, refl, refl), refl)) d
     where
       Stood : Visit X G O F H → Move → Type 0
@@ -139,15 +143,12 @@ module _ {X G O F H : Type 0} where
           let k = left_by v w y x b.0 e in
           (closes_on h y x b.0, ((k.0.0 ∙ b.1.0.0, k.0.1 ∙ b.1.0.1, k.0.2 ∙ b.1.0.2), k.1 ∙ b.1.1))
 
-  pub closes : (h : PoolShape) (m n : Move) (s u : Visit X G O F H) → Closes m → So h m s n u → Left s u
-  closes h m n s u c d = (closed h m n s u c d).1
-
   -- each worker is called
   pub called : (h : PoolShape) (c : Pieces) (s u : Visit X G O F H) → c.pool ≡ 0 → c.workers ≡ h.workers → So h (Stay (at.LockToWake (record { pool = 0; owed = c.workers; worker = 0; then = Called }))) s Back u → So h (Mark (call_all h c) c Queued) s Back u
   called h c s u pool all d =
       let each = subst (λ (k : ℕ). So h (Stay (at.LockToWake (record { pool = 0; owed = k; worker = 0; then = Called }))) s Back u) all d in
       let there = subst (λ (r : ℕ). So h (Stay (at.LockToWake (record { pool = r; owed = h.workers; worker = 0; then = Called }))) s Back u) (sym pool) each in
-      driven_from (λ (v : Visit X G O F H) x y w. Does x y v w) (λ (v : Visit X G O F H). v.trace) h (Caller 0) (Mark (call_all h c) c Queued) (call_all h c) s u Back refl refl over there
+      driven_from (λ (v : Visit X G O F H) x y w. Does x y v w) (λ (v : Visit X G O F H). v.trace) h (Caller 0) (Mark (call_all h c) c Queued) (call_all h c) s u Back refl refl (no_stay Back tt) there
 
   -- a path of one act
   pub one : (m : Move) (x : Seen) (s t : Visit X G O F H) → goes m ≡ true → Made (act_at (Caller 0) m) x s t → So s.shape m s (onward s.shape (Caller 0) m x) t
@@ -204,36 +205,23 @@ module _ {X G O F H : Type 0} where
   pub unraised : (c : Pieces) (s t : Visit X G O F H) → Made (acts.RaiseAll c) Refused s t → HandsBack (Stay (at.RaiseForAll c)) c s t
   unraised c s t d = inl (one (Stay (at.RaiseForAll c)) Refused s t refl d)
 
+  -- pieces are handed back after what came before
+  pub then_back : (c : Pieces) (m k : Move) (s u t : Visit X G O F H) → u.shape ≡ s.shape → So s.shape m s k u → HandsBack k c u t → HandsBack m c s t
+  then_back c m k s u t same d (inl p) = inl (joined s.shape m k (HandAllBack c) s u t d (subst (λ (h : PoolShape). So h k u (HandAllBack c) t) same p))
+  then_back c m k s u t same d (inr p) = inr (p.0, joined s.shape m k (Mark (ends_count c.count) c Returned) s u p.0 d (subst (λ (h : PoolShape). So h k u (Mark (ends_count c.count) c Returned) p.0) same p.1), p.2)
+
   -- the units are taken, and the push saw this
-  raised_to : (f n : ℕ) (c : Pieces) (s u v : Visit X G O F H) (x : Seen) → c ≡ casting f n → Made (acts.RaiseAll c) Done s u → Made (acts.PushCast c) x u v → So s.shape (Stay (at.RaiseForAll c)) s (next_of s.shape (Caller 0) (at.PushForAll c) x) v
-  raised_to f n c s u v x e = subst (λ (z : Pieces). Made (acts.RaiseAll z) Done s u → Made (acts.PushCast z) x u v → So s.shape (Stay (at.RaiseForAll z)) s (next_of s.shape (Caller 0) (at.PushForAll z) x) v) (sym e) by
-    where
-      by : Made (acts.RaiseAll (casting f n)) Done s u → Made (acts.PushCast (casting f n)) x u v → So s.shape (Stay (at.RaiseForAll (casting f n))) s (next_of s.shape (Caller 0) (at.PushForAll (casting f n)) x) v
-      by a b =
-          let m = Stay (at.RaiseForAll (casting f n)) in
-          let raised = Mark (at.PushForAll (casting f n)) (casting f n) Counted in
-          goes_on (λ (k : Visit X G O F H) j y w. Does j y k w) (λ (k : Visit X G O F H). k.trace) s.shape (Caller 0) m s u raised x v (one m Done s u refl a) refl b.0 b.1
+  raised_to : (c : Pieces) (s u v : Visit X G O F H) (x : Seen) → c.count ≡ OfPool 0 → Made (acts.RaiseAll c) Done s u → Made (acts.PushCast c) x u v → So s.shape (Stay (at.RaiseForAll c)) s (next_of s.shape (Caller 0) (at.PushForAll c) x) v
+  raised_to c s u v x e a b =
+      let counted = subst (λ (k : Count). So s.shape (Stay (at.RaiseForAll c)) s (Mark (begin_cast k c) c Counted) u) e (one (Stay (at.RaiseForAll c)) Done s u refl a) in
+      goes_on (λ (k : Visit X G O F H) j y w. Does j y k w) (λ (k : Visit X G O F H). k.trace) s.shape (Caller 0) (Stay (at.RaiseForAll c)) s u (Mark (at.PushForAll c) c Counted) x v counted refl b.0 b.1
 
   -- all is done
-  pub cast_done : (f n : ℕ) (c : Pieces) (s u v t : Visit X G O F H) → c ≡ casting f n → Made (acts.RaiseAll c) Done s u → Made (acts.PushCast c) Done u v → So v.shape (Mark (call_all v.shape c) c Queued) v Back t → Casts c s t
-  cast_done f n c s u v t e a b d =
-      let same : v.shape ≡ s.shape = b.0.1 ∙ a.0.1 in
-      let first = raised_to f n c s u v Done e a b in
-      (v, first, subst (λ (h : PoolShape). So v.shape (Mark (call_all h c) c Queued) v Back t) same d)
+  pub cast_done : (c : Pieces) (s u v t : Visit X G O F H) → c.count ≡ OfPool 0 → Made (acts.RaiseAll c) Done s u → Made (acts.PushCast c) Done u v → So v.shape (Mark (call_all v.shape c) c Queued) v Back t → Casts c s t
+  cast_done c s u v t e a b d = (v, raised_to c s u v Done e a b, subst (λ (h : PoolShape). So v.shape (Mark (call_all h c) c Queued) v Back t) (b.0.1 ∙ a.0.1) d)
 
   -- the push is refused
-  pub unpushed : (f n : ℕ) (c : Pieces) (s u v t : Visit X G O F H) → c ≡ casting f n → Made (acts.RaiseAll c) Done s u → Made (acts.PushCast c) Refused u v → HandsBack (Stay (at.LowerForAll c)) c v t → HandsBack (Stay (at.RaiseForAll c)) c s t
-  unpushed f n c s u v t e a b d = by d
-    where
-      same : v.shape ≡ s.shape
-      same = b.0.1 ∙ a.0.1
-
-      after : (w : Visit X G O F H) (k : Move) → So v.shape (Stay (at.LowerForAll c)) v k w → So s.shape (Stay (at.RaiseForAll c)) s k w
-      after w k p =
-          let first = subst (λ (r : Count). So s.shape (Stay (at.RaiseForAll c)) s (Stay (end_cast r c)) v) (ap (λ (z : Pieces). z.count) e) (raised_to f n c s u v Refused e a b) in
-          let rest = subst (λ (h : PoolShape). So h (Stay (at.LowerForAll c)) v k w) same p in
-          driven_then (λ (j : Visit X G O F H) y z q. Does y z j q) (λ (j : Visit X G O F H). j.trace) s.shape (Caller 0) (Stay (at.RaiseForAll c)) s v (Stay (at.LowerForAll c)) w k first rest
-
-      by : HandsBack (Stay (at.LowerForAll c)) c v t → HandsBack (Stay (at.RaiseForAll c)) c s t
-      by (inl p) = inl (after t (HandAllBack c) p)
-      by (inr p) = inr (p.0, after p.0 (Mark (ends_count c.count) c Returned) p.1, p.2)
+  pub unpushed : (c : Pieces) (s u v t : Visit X G O F H) → c.count ≡ OfPool 0 → Made (acts.RaiseAll c) Done s u → Made (acts.PushCast c) Refused u v → HandsBack (Stay (at.LowerForAll c)) c v t → HandsBack (Stay (at.RaiseForAll c)) c s t
+  unpushed c s u v t e a b d =
+      let refused = subst (λ (k : Count). So s.shape (Stay (at.RaiseForAll c)) s (Stay (end_cast k c)) v) e (raised_to c s u v Refused e a b) in
+      then_back c (Stay (at.RaiseForAll c)) (Stay (at.LowerForAll c)) s v t (b.0.1 ∙ a.0.1) refused d

@@ -34,6 +34,7 @@ impl<'a, J: JobKind> Guest<'a, J> {
     /// `NoRoom` before all that, when nothing was done, or at the push; `Ended`, `Full` at the units; with the job
     /// back and nothing queued. Units that were taken are given back, and where they were the last each worker's
     /// terminate latch is set.
+    #[tactic(auto, using(crate::proofs::Casts::are_tasks))]
     pub fn spawn_broadcast<R: Wait>(
         &mut self,
         rt: &R,
@@ -60,9 +61,18 @@ impl<'a, J: JobKind> Guest<'a, J> {
         let Ok(pieces) = detached_pieces(alloc, &place, cast) else {
             return Err((Refusal::NoRoom, job));
         };
-        match self.cast(rt, cast, pieces, &place, job) {
-            Ok(_) => Ok(()),
-            Err(refused) => Err(refused),
+        if let Err(refusal) = self.raise_all(rt, cast) {
+            return Err((refusal, job));
+        }
+        match self.push_all(rt, cast, pieces, &place, job) {
+            Ok(_) => {
+                self.call_all(rt, cast);
+                Ok(())
+            }
+            Err(job) => {
+                self.give_all_back(rt, cast);
+                Err((Refusal::NoRoom, job))
+            }
         }
     }
 
@@ -75,43 +85,6 @@ impl<'a, J: JobKind> Guest<'a, J> {
             pool: 0,
             first,
             workers: self.shape.workers,
-        }
-    }
-
-    // Takes units for these pieces, queues them and calls each worker. Lends the job as it stands in the place that the
-    // pieces share.
-    #[tactic(auto, using(crate::proofs::Casts::are_tasks))]
-    fn cast<'p, R: Wait>(
-        &mut self,
-        rt: &R,
-        cast: Pieces,
-        pieces: Vec<Task<J>>,
-        place: &'p SharedJob<J>,
-        job: J,
-    ) -> Result<&'p J, (Refusal, J)>
-        requires idle { (self.old.load ≡ None) × (self.old.holds ≡ false) }
-        requires cast { cast ≡ casting cast.first self.old.shape.workers }
-        requires pieces { pieces.items ≡ cast_tasks (Caller 0) cast }
-        ensures path { MatchResult result (λ _. Casts cast self.old self.new) (λ _. HandsBack (Stay (at.RaiseForAll cast)) cast self.old self.new) }
-        ensures units { MatchResult result
-            (λ _. TakesUnits cast.workers self.old.marks.count self.new.marks.count)
-            (λ _. KeepsAll cast.workers self.old.marks.count self.new.marks.count) }
-        ensures job { MatchResult result (λ there. there.now ≡ job) (λ e. e.1 ≡ job) }
-        ensures refused { IfErr result (λ e. (e.0 ≡ Refusal.Ended) ⊎ (e.0 ≡ Refusal.Full) ⊎ (e.0 ≡ Refusal.NoRoom)) }
-        ensures keeps { Same self.old self.new }
-    {
-        if let Err(refusal) = self.raise_all(rt, cast) {
-            return Err((refusal, job));
-        }
-        match self.push_all(rt, cast, pieces, place, job) {
-            Ok(there) => {
-                self.call_all(rt, cast);
-                Ok(there)
-            }
-            Err(job) => {
-                self.give_all_back(rt, cast);
-                Err((Refusal::NoRoom, job))
-            }
         }
     }
 

@@ -1,6 +1,6 @@
 //! The broadcasts of an outside caller into a scope: one piece for each worker, all queued at once, each with a share
 //! of the scope's count and a number of the scope's book. The scope is reached by the ticket in hand.
-ghost use Rattle.std.specs.Prelude.{◌≡◌, ◌⊎◌, ◌+◌, ◌<◌, ◌≤◌, ◌^◌, ◌++◌, [], None, IsSome, false, IfErr, IfOk, MatchResult, length, vec_capacity};
+ghost use Rattle.std.specs.Prelude.{◌≡◌, ◌⊎◌, ◌+◌, ◌<◌, ◌≤◌, ◌^◌, ◌++◌, [], None, false, IfErr, IfOk, MatchResult, length, vec_capacity};
 ghost use Rattle.rayon_books.specs.Books.{opened};
 ghost use Rattle.rayon_machine_places.specs.Places.{call_all};
 ghost use Rattle.rayon_machine_places.specs.declared.act.Act.TheVariants as acts;
@@ -95,7 +95,10 @@ impl<'a, J: JobKind> Guest<'a, J> {
         if let Err(refusal) = self.raise_all(rt, cast) {
             return Err((refusal, job));
         }
-        match self.number_all(rt, cast, &ticket, ready, place, job) {
+        let mut book = scope_of(&self.call).book().hold(rt);
+        let numbered = self.number_each(rt, &mut book, cast, &ticket, ready, place, job);
+        let _taken = scope_of(&self.call).book().leave(rt, book);
+        match numbered {
             Ok(numbered) => {
                 self.call_all(rt, cast);
                 Ok(numbered)
@@ -120,35 +123,6 @@ impl<'a, J: JobKind> Guest<'a, J> {
             first: entry.job,
             workers: self.shape.workers,
         }
-    }
-
-    // With the scope's book held, numbers the pieces and queues them.
-    fn number_all<'p, R: Wait>(
-        &mut self,
-        rt: &R,
-        cast: Pieces,
-        ticket: &Ticket<J>,
-        ready: Vec<Task<J>>,
-        place: &'p SharedJob<J>,
-        job: J,
-    ) -> Result<(u64, &'p J), (Refusal, J)>
-        requires scope { (self.old.load ≡ None) × IsSome (scope_in self.old.call) }
-        requires count { IsCountOf ticket.now.scope cast.count }
-        requires empty { ready.items ≡ [] }
-        requires room { cast.workers ≤ vec_capacity ready }
-        requires row { cast.first + cast.workers < 2 ^ 64 }
-        ensures path { MatchResult result
-            (λ r. GoesNumbered cast r.0 (Mark (at.OpenForAll cast) cast Counted) self.old self.new (Mark (call_all self.old.shape cast) cast Queued))
-            (λ _. StayUnnumbered cast self.old self.new) }
-        ensures job { MatchResult result (λ r. r.1.now ≡ job) (λ e. e.1 ≡ job) }
-        ensures numbers { IfOk result (λ r. r.0 + cast.workers ≤ 2 ^ 64) }
-        ensures same { self.new ≡ record self.old { trace = self.new.trace } }
-        ensures refused { IfErr result (λ e. (e.0 ≡ Refusal.Full) ⊎ (e.0 ≡ Refusal.NoRoom)) }
-    {
-        let mut book = scope_of(&self.call).book().hold(rt);
-        let numbered = self.number_each(rt, &mut book, cast, ticket, ready, place, job);
-        let _taken = scope_of(&self.call).book().leave(rt, book);
-        numbered
     }
 
     // Opens the next numbers of the scope's book, which the caller holds, one for each piece, and queues the pieces,

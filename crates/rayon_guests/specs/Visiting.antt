@@ -324,10 +324,7 @@ module _ {X G O F H : Type 0} where
       by : (l : Option (Load X G O F H)) → IsDetached (detached_ticket n) l → Next p (record s { inlet = v; load = None; holds = unit_after l s.holds; held = b }) Back
       by (Some (Detached j t)) d = (refl, refl, whole_as p (Detach r n) q tt)
       by _ d = absurd d
-  pushed_at p (Open o) s v b e q f h k = absurd (none s.load f.1 k)
-    where
-      none : (l : Option (Load X G O F H)) → l ≡ None → Packed o.job l s.call s.first → ⊥
-      none l a c = subst (λ (z : Option (Load X G O F H)). Packed o.job z s.call s.first) a c
+  pushed_at p (Open o) s v b e q f h k = absurd (subst (λ (z : Option (Load X G O F H)). Packed o.job z s.call s.first) f.1 k)
   pushed_at p (Enter x) s v b e q f h k = (f.0, by s.load f.2)
     where
       by : (l : Option (Load X G O F H)) → IsScoped l → Next p (record s { inlet = v; load = None; holds = unit_after l s.holds; held = b }) Back

@@ -1,5 +1,5 @@
 -- Threads that are taken one after the other.
-use Rattle.std.proofs.Common.{◌≡◌, ℕ, ◌+◌, List, [], ◌∷◌, ◌++◌, arith, Option}
+use Rattle.std.proofs.Common.{◌≡◌, ℕ, zero, suc, ◌+◌, List, [], ◌∷◌, ◌++◌, Some, drop, slice_get, true, false, true≢false, ap, arith, Option}
 use Rattle.std.specs.List.{range_with_len}
 use Rattle.std.proofs.lemmas.Fn.{FoldsTo-push}
 use Rattle.std.proofs.lemmas.List.{map-id}
@@ -14,6 +14,16 @@ range_more n =
     let front = map-id (range_with_len 0 n) in
     let more = map-range_with_len_more (λ (x : ℕ). x) 0 n n (omega arith) in
     rw front at (rw whole at more)
+
+no_list : {D : Type 0} (x : D) (rest : List D) → [] ≡ x ∷ rest → ⊥
+no_list x rest e = true≢false (ap (λ (l : List _). elim l [ [] ↦ true | y ∷ ys ↦ false ]) e)
+
+-- of what comes by index from this one on, the first is the one of this index, and the others come from the next one on
+pub next_of_row : {D : Type 0} (all : List D) (n : ℕ) (x : D) (rest : List D) → drop n all ≡ x ∷ rest → (slice_get all n ≡ Some x) × (drop (suc n) all ≡ rest)
+next_of_row [] zero x rest e = absurd (no_list x rest e)
+next_of_row [] (suc n) x rest e = absurd (no_list x rest e)
+next_of_row (y ∷ ys) zero x rest e = (ap (λ l. slice_get l 0) e, ap (λ l. drop 1 l) e)
+next_of_row (y ∷ ys) (suc n) x rest e = next_of_row ys n x rest e
 
 -- what names threads, and what starts them
 module _ {N S : Type 0} (named : N → ℕ → Option (List ℕ) → N → Type 0) (taken : S → Thread → S → Type 0) where

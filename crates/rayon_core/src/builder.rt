@@ -2,7 +2,7 @@
 ghost use Rattle.rayon_core.specs.Environment.{Says, workers_of};
 ghost use Rattle.rayon_core.specs.Texts.{fixed_text};
 ghost use Rattle.rayon_core.specs.Threads.{Took, TookFirst};
-ghost use Rattle.std.specs.Prelude.{◌≡◌, ℕ, ◌+◌, ◌-◌, ◌^◌, ◌<◌, max, length, All, is_some, IfOk, IfErr, MatchOption, None, Some, true, false};
+ghost use Rattle.std.specs.Prelude.{◌≡◌, ℕ, ◌+◌, ◌-◌, ◌^◌, ◌<◌, map, max, length, slice_get, All, is_some, IfOk, IfErr, MatchOption, None, Some, true, false};
 
 use crate::build_error::ThreadPoolBuildError;
 use crate::environment::{Environment, number_in};
@@ -460,6 +460,7 @@ where
     J::Fault: Send + Sync + 'static,
     J::Handler: Send + Sync + 'static,
     requires index { index < pool.now.workers }
+    requires own { slice_get pool.now.deques index ≡ Some kit.id }
     requires names { N.can_name names.old }
     requires spawn { S.can_spawn spawn.old }
     ensures names { N.can_name names.new }
@@ -506,7 +507,8 @@ where
     J::Output: Send + Sync + 'static,
     J::Fault: Send + Sync + 'static,
     J::Handler: Send + Sync + 'static,
-    requires deques { length deques.items ≡ pool.now.workers }
+    requires length { length deques.items ≡ pool.now.workers }
+    requires deques { map (λ d. d.id) deques.items ≡ pool.now.deques }
     requires names { N.can_name names.old }
     requires spawn { S.can_spawn spawn.old }
     requires handles { All (λ h. is_some h ≡ S.hands_back) workers.old.items }

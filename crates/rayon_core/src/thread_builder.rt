@@ -1,6 +1,6 @@
 //! A worker's thread, up to where it begins.
 ghost use Rattle.std.specs.Arc.{arc_value};
-ghost use Rattle.std.specs.Prelude.{◌≡◌, ◌<◌, IfOk, IfErr, option_map};
+ghost use Rattle.std.specs.Prelude.{◌≡◌, ◌<◌, Some, IfOk, IfErr, option_map, slice_get};
 ghost use Rattle.std.specs.String.{string_bytes};
 
 use rayon_jobs::JobKind;
@@ -44,23 +44,24 @@ pub struct ThreadBuilder<J: JobKind> {
 impl<J: JobKind> Model for ThreadBuilder<J> {
     ghost use Rattle.rayon_core.specs.Threads.{Thread};
     ghost use Rattle.std.specs.Arc.{arc_value};
-    ghost use Rattle.std.specs.Prelude.{◌<◌, option_map};
+    ghost use Rattle.std.specs.Prelude.{◌≡◌, ◌<◌, Some, option_map, slice_get};
     ghost use Rattle.std.specs.String.{string_bytes};
 
     ghost Value = { Thread };
 
     ghost view = { λ t. record {
-      pool = record { id = t.begins.value.worker.pool; workers = (arc_value t.begins.value.share.shared).workers; depth_limit = (arc_value t.begins.value.share.shared).depth_limit; breadth_first = (arc_value t.begins.value.share.shared).breadth_first; count = (arc_value t.begins.value.share.shared).count };
+      pool = record { id = t.begins.value.worker.pool; workers = (arc_value t.begins.value.share.shared).workers; depth_limit = (arc_value t.begins.value.share.shared).depth_limit; breadth_first = (arc_value t.begins.value.share.shared).breadth_first; deques = (arc_value t.begins.value.share.shared).deques; count = (arc_value t.begins.value.share.shared).count };
       index = t.begins.value.worker.index;
       name = option_map string_bytes t.begins.value.name;
       stack_size = t.begins.value.stack_size;
     } };
 
-    ghost invariant = { λ t. t.begins.value.worker.index < (arc_value t.begins.value.share.shared).workers };
+    ghost invariant = { λ t. (t.begins.value.worker.index < (arc_value t.begins.value.share.shared).workers) × (slice_get (arc_value t.begins.value.share.shared).deques t.begins.value.worker.index ≡ Some t.begins.value.share.kit.id) };
 }
 
 impl<J: JobKind> ThreadBuilder<J> {
-    // The thread of the worker with this index of this pool, which begins with this. Refused `NoRoom`.
+    // The thread of the worker with this index of this pool, which begins with this: the pool's own deque of this index.
+    // Refused `NoRoom`.
     pub(crate) fn new(
         alloc: Global,
         pool: &PoolRef<J>,
@@ -69,7 +70,8 @@ impl<J: JobKind> ThreadBuilder<J> {
         stack_size: Option<usize>,
         kit: WorkerKit<Task<J>>,
     ) -> Result<ThreadBuilder<J>, Refusal>
-        requires { index < pool.now.workers }
+        requires index { index < pool.now.workers }
+        requires own { slice_get pool.now.deques index ≡ Some kit.id }
         ensures made { IfOk result (λ t. t ≡ record { pool = pool.now; index = index; name = option_map string_bytes name; stack_size = stack_size }) }
         ensures refused { IfErr result (λ r. r ≡ Refusal.NoRoom) }
     {
@@ -97,6 +99,7 @@ impl<J: JobKind> ThreadBuilder<J> {
         ensures worker { (result.worker.pool ≡ self.pool.id) × (result.worker.index ≡ self.index) }
         ensures told { (option_map string_bytes result.name ≡ self.name) × (result.stack_size ≡ self.stack_size) }
         ensures of_pool { result.worker.index < (arc_value result.share.shared).workers }
+        ensures own { slice_get (arc_value result.share.shared).deques result.worker.index ≡ Some result.share.kit.id }
     {
         let ThreadBuilder { begins } = self;
         Box::into_inner(begins)
@@ -138,10 +141,6 @@ impl<J: JobKind> ThreadBuilder<J> {
             faults,
         } = self.into_begins();
         let WorkerId { pool, index } = worker;
-        let thread = rayon_registry::ThreadBuilder::new(pool, index, shared, faults, kit);
-        match thread {
-            Some(thread) => thread.run(rt, alloc),
-            None => unreachable!(),
-        }
+        rayon_registry::ThreadBuilder::new(pool, index, shared, faults, kit).run(rt, alloc);
     }
 }

@@ -1,6 +1,8 @@
 //! The ordinary way in which a worker's thread is started.
 ghost use Rattle.std.specs.IoError.{error_kind};
-ghost use Rattle.std.specs.Prelude.{◌≡◌, IfErr};
+ghost use Rattle.std.specs.Arc.{arc_value};
+ghost use Rattle.std.specs.Prelude.{◌≡◌, ◌<◌, Some, IfErr, slice_get};
+ghost use Rattle.rayon_queues.specs.Deques.{DequeId};
 
 use crate::thread_builder::{Begins, ThreadBuilder, ThreadShare};
 use crate::thread_names::given_name;
@@ -34,19 +36,30 @@ fn start_with<
     seats: K,
     begin: F,
 ) -> io::Result<JoinHandle<()>>
-    requires { F.IsAlwaysCallable begin }
+    requires { (r : _) → F.pre begin r shared faults deque seats }
 {
     let theirs = *rt;
-    how.spawn(rt, move || begin(&theirs, shared, faults, deque, seats))
+    how.spawn(
+        rt,
+        move ||
+            requires { (r : _) → F.pre begin r shared faults deque seats }
+        { begin(&theirs, shared, faults, deque, seats) },
+    )
 }
 
 // A worker's own deque.
 trait OwnDeque<J: JobKind>: Drop {
+    // Which deque it is.
+    ghost which: { Self → DequeId };
+
     // It itself.
-    fn into_deque(self) -> WorkerDeque<Task<J>>;
+    fn into_deque(self) -> WorkerDeque<Task<J>>
+        ensures { result.id ≡ which self };
 }
 
 impl<J: JobKind> OwnDeque<J> for WorkerDeque<Task<J>> {
+    ghost which = { λ d. d.id };
+
     fn into_deque(self) -> WorkerDeque<Task<J>> {
         self
     }
@@ -76,8 +89,8 @@ impl<F: Drop, H: PoolHandler<F>> OwnFaults<F, H> for SharedFaults<F, H> {
     }
 }
 
-// Starts the thread of this worker, which begins with what the pool's threads share, and with these faults, this deque
-// and these seats.
+// Starts the thread of this worker, which begins with what the pool's threads share, and with these faults, the pool's
+// own deque of the worker's index, and these seats.
 fn start_sharing<
     J,
     N: OwnFaults<J::Fault, J::Handler> + Send + 'static,
@@ -100,6 +113,8 @@ where
     J::Output: Send + Sync + 'static,
     J::Fault: Send + Sync + 'static,
     J::Handler: Send + Sync + 'static,
+    requires index { worker.index < (arc_value shared).workers }
+    requires own { slice_get (arc_value shared).deques worker.index ≡ Some (D.which deque) }
 {
     start_with(
         rt,
@@ -108,14 +123,13 @@ where
         faults,
         deque,
         seats,
-        move |rt, shared, faults, deque, seats| {
+        move |rt, shared, faults, deque, seats|
+            requires { (worker.index < (arc_value shared).workers) × (slice_get (arc_value shared).deques worker.index ≡ Some (D.which deque)) }
+        {
             let kit = WorkerKit::new(deque.into_deque(), seats.into_seats());
             let WorkerId { pool, index } = worker;
             let faults = faults.into_faults();
-            let thread = rayon_registry::ThreadBuilder::new(pool, index, shared, faults, kit);
-            if let Some(thread) = thread {
-                thread.run(rt, alloc);
-            }
+            rayon_registry::ThreadBuilder::new(pool, index, shared, faults, kit).run(rt, alloc);
         },
     )
 }
@@ -142,6 +156,8 @@ where
     J::Output: Send + Sync + 'static,
     J::Fault: Send + Sync + 'static,
     J::Handler: Send + Sync + 'static,
+    requires index { worker.index < (arc_value shared).workers }
+    requires own { slice_get (arc_value shared).deques worker.index ≡ Some deque.id }
 {
     start_sharing(rt, alloc, worker, how, shared, faults, deque, seats)
 }

@@ -1,6 +1,6 @@
 //! What the library makes a pool of, and ends it by. Users have `ThreadPoolBuilder` and `ThreadPool` for this.
 ghost use Rattle.std.specs.Arc.{arc_value};
-ghost use Rattle.std.specs.Prelude.{◌≡◌, ◌<◌, max, length, IfOk, IfErr};
+ghost use Rattle.std.specs.Prelude.{◌≡◌, ◌<◌, map, max, length, IfOk, IfErr};
 
 use crate::faults::{Handlers, SharedFaults};
 use crate::ids::PoolId;
@@ -29,8 +29,9 @@ pub fn new_pool<J: JobKind, R: Wait>(
     handlers: Handlers<J::Handler>,
 ) -> Result<(PoolRef<J>, Vec<WorkerKit<Task<J>>>, PoolHold), Refusal>
     requires { (0 < num_threads) × (num_threads < 65536) }
-    ensures made { IfOk result (λ r. r.0 ≡ record { id = id; workers = num_threads; depth_limit = max 1 depth_limit; breadth_first = breadth_first; count = r.2 }) }
-    ensures deques { IfOk result (λ r. length r.1.items ≡ num_threads) }
+    ensures made { IfOk result (λ r. r.0 ≡ record { id = id; workers = num_threads; depth_limit = max 1 depth_limit; breadth_first = breadth_first; deques = r.0.deques; count = r.2 }) }
+    ensures length { IfOk result (λ r. length r.1.items ≡ num_threads) }
+    ensures deques { IfOk result (λ r. map (λ d. d.id) r.1.items ≡ r.0.deques) }
     ensures refused { IfErr result (λ r. r ≡ Refusal.NoRoom) }
 {
     let faults = SharedFaults::new(alloc, handlers)?;
@@ -55,6 +56,7 @@ pub fn shared_of<J: JobKind>(pool: &PoolRef<J>) -> Result<Arc<Registry<Task<J>>,
     ensures workers { IfOk result (λ s. (arc_value s).workers ≡ pool.now.workers) }
     ensures depth { IfOk result (λ s. (arc_value s).depth_limit ≡ pool.now.depth_limit) }
     ensures order { IfOk result (λ s. (arc_value s).breadth_first ≡ pool.now.breadth_first) }
+    ensures deques { IfOk result (λ s. (arc_value s).deques ≡ pool.now.deques) }
     ensures count { IfOk result (λ s. (arc_value s).count ≡ pool.now.count) }
     ensures refused { IfErr result (λ r. r ≡ Refusal.NoRoom) }
 {

@@ -28,7 +28,7 @@ pub(crate) struct PoolShare<T> {
 
 /// A pool as any thread uses it: it can be sent to other threads and shared among them. It keeps no pool from ending.
 /// Contracts see the pool's number, how many workers it has, the levels of a worker value that no run was lent yet,
-/// whether each worker takes its oldest task first, and which terminate count it has.
+/// whether each worker takes its oldest task first, and which deques and which terminate count it has.
 #[derive(Drop)]
 pub struct PoolRef<J: JobKind> {
     pub(crate) pool: PoolShare<Task<J>>,
@@ -41,7 +41,7 @@ impl<J: JobKind> Model for PoolRef<J> {
 
     ghost Value = { Pool };
 
-    ghost view = { λ r. record { id = r.pool.id; workers = (arc_value r.pool.shared).workers; depth_limit = (arc_value r.pool.shared).depth_limit; breadth_first = (arc_value r.pool.shared).breadth_first; count = (arc_value r.pool.shared).count } };
+    ghost view = { λ r. record { id = r.pool.id; workers = (arc_value r.pool.shared).workers; depth_limit = (arc_value r.pool.shared).depth_limit; breadth_first = (arc_value r.pool.shared).breadth_first; deques = (arc_value r.pool.shared).deques; count = (arc_value r.pool.shared).count } };
 }
 
 impl<J: JobKind> PoolRef<J> {
@@ -51,7 +51,7 @@ impl<J: JobKind> PoolRef<J> {
         shared: Arc<rayon_shared::Registry<Task<J>>, Global>,
         faults: SharedFaults<J::Fault, J::Handler>,
     ) -> PoolRef<J>
-        ensures { result ≡ record { id = id; workers = (arc_value shared).workers; depth_limit = (arc_value shared).depth_limit; breadth_first = (arc_value shared).breadth_first; count = (arc_value shared).count } }
+        ensures { result ≡ record { id = id; workers = (arc_value shared).workers; depth_limit = (arc_value shared).depth_limit; breadth_first = (arc_value shared).breadth_first; deques = (arc_value shared).deques; count = (arc_value shared).count } }
     {
         PoolRef {
             pool: PoolShare { id, shared },

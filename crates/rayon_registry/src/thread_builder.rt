@@ -1,6 +1,6 @@
 //! A worker's thread, up to its loop.
 ghost use Rattle.std.specs.Arc.{arc_value};
-ghost use Rattle.std.specs.Prelude.{◌≡◌, ◌≤◌, IfSome, IfNone};
+ghost use Rattle.std.specs.Prelude.{◌≡◌, ◌<◌, Some, slice_get};
 
 use crate::faults::SharedFaults;
 use crate::ids::PoolId;
@@ -15,7 +15,8 @@ use std::alloc::Global;
 use std::marker::Model;
 use std::sync::{Arc, Wait};
 
-/// A worker's thread that has not begun its loop yet. Contracts see its pool and its index.
+/// A worker's thread that has not begun its loop yet. Contracts see its pool and its index. What it begins with has the
+/// deque that the pool has of this index.
 #[derive(Drop)]
 pub struct ThreadBuilder<J: JobKind> {
     pool: PoolRef<J>,
@@ -25,37 +26,35 @@ pub struct ThreadBuilder<J: JobKind> {
 
 impl<J: JobKind> Model for ThreadBuilder<J> {
     ghost use Rattle.rayon_registry.specs.Worker.{Seat};
-    ghost use Rattle.std.specs.Prelude.{◌<◌};
+    ghost use Rattle.std.specs.Prelude.{◌≡◌, ◌<◌, Some, slice_get};
 
     ghost Value = { Seat };
 
     ghost view = { λ t. record { pool = t.pool; index = t.index } };
 
-    ghost invariant = { λ t. t.index < t.pool.workers };
+    ghost invariant = { λ t. (t.index < t.pool.workers) × (slice_get t.pool.deques t.index ≡ Some t.deque.id) };
 }
 
 impl<J: JobKind> ThreadBuilder<J> {
     /// The thread of the worker with this index of the pool with this number, by what the pool's threads share and by
-    /// what the worker begins with. It is made in the thread itself, of what was sent there. None where the pool has no
-    /// worker with this index.
+    /// what that worker of the pool begins with, and no other one. It is made in the thread itself, of what was sent
+    /// there.
     pub fn new(
         id: PoolId,
         index: usize,
         shared: Arc<Registry<Task<J>>, Global>,
         faults: SharedFaults<J::Fault, J::Handler>,
         deque: WorkerKit<Task<J>>,
-    ) -> Option<ThreadBuilder<J>>
-        ensures seat { IfSome result (λ t. t ≡ record { pool = record { id = id; workers = (arc_value shared).workers; depth_limit = (arc_value shared).depth_limit; breadth_first = (arc_value shared).breadth_first; count = (arc_value shared).count }; index = index }) }
-        ensures none { IfNone result ((arc_value shared).workers ≤ index) }
+    ) -> ThreadBuilder<J>
+        requires index { index < (arc_value shared).workers }
+        requires own { slice_get (arc_value shared).deques index ≡ Some deque.id }
+        ensures seat { result ≡ record { pool = record { id = id; workers = (arc_value shared).workers; depth_limit = (arc_value shared).depth_limit; breadth_first = (arc_value shared).breadth_first; deques = (arc_value shared).deques; count = (arc_value shared).count }; index = index } }
     {
-        if index >= shared.num_threads() {
-            return None;
-        }
-        Some(ThreadBuilder {
+        ThreadBuilder {
             pool: PoolRef::of(id, shared, faults),
             index,
             deque,
-        })
+        }
     }
 
     /// The worker's index in its pool, from 0.

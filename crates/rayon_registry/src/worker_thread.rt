@@ -25,7 +25,7 @@ ghost use Rattle.rayon_drive.specs.declared.trace.Log.TheVariants.{Empty};
 ghost use Rattle.rayon_registry.specs.Acts.{CallMade, Closes, HandedBack, Installed, Unlisted, Worked, wait_end};
 ghost use Rattle.rayon_registry.specs.Answers.{InstallAnswers};
 ghost use Rattle.rayon_registry.specs.Worker.{AfterWait, Kept, SameWorker};
-ghost use Rattle.std.specs.Prelude.{◌≡◌, ◌⊎◌, ℕ, [], ◌∷◌, ◌++◌, ◌-◌, ◌<◌, ◌≤◌, ◌↔◌, IsTrue, List, Result, Ok, Err, IfOk, IfSome, IfNone, IfErr, MatchOption, MatchResult, None, true, false};
+ghost use Rattle.std.specs.Prelude.{◌≡◌, ◌⊎◌, ℕ, [], ◌∷◌, ◌++◌, ◌-◌, ◌<◌, ◌≤◌, ◌↔◌, IsTrue, List, Result, Ok, Err, IfOk, IfSome, IfNone, IfErr, MatchOption, MatchResult, Some, slice_get, None, true, false};
 ghost use Rattle.rayon_drive.specs.Paths.{Traced};
 
 use crate::context::FnContext;
@@ -83,10 +83,12 @@ pub(crate) struct Lent {
 }
 
 impl<J: JobKind> WorkerThread<J> {
-    /// The worker with this index of the pool, which begins with this. There is one value for each.
+    /// The worker with this index of the pool, which begins with this: the deque is the pool's own of this index. There
+    /// is one value for each.
     #[tactic(auto, unfolding(crate::specs::Pushes::units_of, crate::specs::Pushes::shape_at, crate::specs::Pushes::index_of, crate::specs::Pushes::acts_of))]
     pub(crate) fn new(pool: PoolRef<J>, index: usize, deque: WorkerKit<Task<J>>) -> WorkerThread<J>
-        requires { index < pool.workers }
+        requires index { index < pool.workers }
+        requires own { slice_get pool.deques index ≡ Some deque.id }
         ensures pool { result.id.pool ≡ pool.id }
         ensures index { result.id.index ≡ index }
         ensures levels { result.levels ≡ pool.depth_limit }

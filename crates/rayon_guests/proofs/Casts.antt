@@ -1,6 +1,6 @@
 -- How an outside caller's broadcast goes, from act to act.
 use Rattle.std.specs.Prelude.{ℕ, ◌+◌, ◌&&◌, nat_lt, if◌then◌else◌, Bool, List, [], ◌∷◌}
-use Rattle.std.proofs.Common.{◌≡◌, ◌⊎◌, inl, inr, true, false, true≢false, refl, sym, subst, ap, ◌∙◌}
+use Rattle.std.proofs.Common.{Option, Some, ◌≡◌, ◌⊎◌, inl, inr, true, false, true≢false, refl, sym, subst, ap, ◌∙◌}
 use Rattle.rayon_machine_places.specs.declared.act.Act.{Act}
 use Rattle.rayon_machine_places.specs.declared.act.Act.TheVariants as acts
 use Rattle.rayon_machine_places.specs.declared.act.Seen.{Seen}
@@ -27,12 +27,14 @@ use Rattle.rayon_drive.specs.Paths.{IsPath, Leads, act_at, goes, onward}
 use Rattle.rayon_drive.specs.Traces.{Adds}
 use Rattle.rayon_drive.proofs.Paths.{driven_from, driven_keeps, driven_then, goes_on, starts}
 use Rattle.rayon_shared.specs.AtHand.{is_yes}
-use Rattle.rayon_shared.specs.Casts.{AreTasksOf, cast_tasks, casting}
+use Rattle.rayon_shared.specs.Casts.{AreTasksOf, TasksBy, cast_tasks, casting}
 use Rattle.rayon_shared.specs.Marks.{Marks}
+use Rattle.rayon_tasks.specs.Pieces.{pieces_for}
 use Rattle.rayon_tasks.specs.Tasks.{TaskOf}
+use Rattle.rayon_tasks.specs.Tickets.{TicketOf}
 use Rattle.rayon_atomics.specs.declared.views.Teller.{Teller}
 use Rattle.rayon_guests.specs.Casts.{Casts, HandsBack, Made, Same}
-use Rattle.rayon_guests.specs.Visits.{Visit, Does, LowersAll}
+use Rattle.rayon_guests.specs.Visits.{Visit, CastsTo, Does, IsNewCast, LowersAll}
 use Rattle.rayon_guests.proofs.Visits.{So}
 
 -- after this an outside caller's call is over
@@ -106,6 +108,10 @@ closes_on h _ _ a = absurd a
 -- the tasks of the pieces of a broadcast that waits for nothing
 pub are_tasks : {X : Type 0} (c : Pieces) (f n : ℕ) (v : Log) (ts : List (TaskOf X)) → c ≡ casting f n → ts ≡ cast_tasks (Caller 0) c → AreTasksOf (Caller 0) v c ts
 are_tasks c f n v ts e = subst (λ (z : Pieces). ts ≡ cast_tasks (Caller 0) z → AreTasksOf (Caller 0) v z ts) (sym e) (λ a. a)
+
+-- and of one that waits, where each has a share of the call's ticket
+pub are_shares : {X : Type 0} (c : Pieces) (k : Option TicketOf) (u : TicketOf) (v : Log) (ts : List (TaskOf X)) → CastsTo c k → k ≡ Some u → ts ≡ pieces_for u c.first c.workers → AreTasksOf (Caller 0) v c ts
+are_shares c k u v ts a e is = subst (λ (z : Count). TasksBy z (Caller 0) v c ts) (sym a.1) (u, subst (λ (z : Option TicketOf). IsNewCast c.workers a.0 z) e a.2, is)
 
 -- where a call is over, or pieces are handed back or marked, the table leads to no place alone
 abbrev pub IsNoStay : Move → Type 0

@@ -56,7 +56,10 @@ module _ {X G O F H : Type 0} where
   -- shares are given back once the numbers are
   from_unnumbered : (c : Pieces) (s t : Visit X G O F H) → HandsBack (Stay (at.LowerForAll c)) c s t → HandsBack (Mark (at.LowerForAll c) c Unnumbered) c s t
   from_unnumbered c s t (inl d) = inl (driven_from (λ (j : Visit X G O F H) y w q. Does y w j q) (λ (j : Visit X G O F H). j.trace) s.shape (Caller 0) (Mark (at.LowerForAll c) c Unnumbered) (at.LowerForAll c) s t (HandAllBack c) refl refl (no_stay (HandAllBack c) tt) d)
-  from_unnumbered c s t (inr d) = inr (d.0, driven_from (λ (j : Visit X G O F H) y w q. Does y w j q) (λ (j : Visit X G O F H). j.trace) s.shape (Caller 0) (Mark (at.LowerForAll c) c Unnumbered) (at.LowerForAll c) s d.0 (Mark (ends_count c.count) c Returned) refl refl (no_stay (Mark (ends_count c.count) c Returned) tt) d.1, d.2)
+  from_unnumbered c s t (inr d) =
+      let ends = Mark (ends_count c.count) c Returned in
+      let given = driven_from (λ (j : Visit X G O F H) y w q. Does y w j q) (λ (j : Visit X G O F H). j.trace) s.shape (Caller 0) (Mark (at.LowerForAll c) c Unnumbered) (at.LowerForAll c) s d.0 ends refl refl (no_stay ends tt) d.1 in
+      inr (d.0, given, d.2)
 
   module _ (c : Pieces) (s t u v : Visit X G O F H) (is : IsCountOf (scope_in s.call) c.count) (left : u ≡ record t { trace = u.trace }) (raised : Made (acts.RaiseAll c) Done s t) where
     same : u.shape ≡ s.shape
@@ -90,8 +93,15 @@ module _ {X G O F H : Type 0} where
 
   -- the ticket of the scope stands for that of the call while a caller broadcasts into the scope, and no longer
   pub exchanged_for_all : (j k : Option TicketOf) (e : Entry) (n : ℕ) (s u v t : Visit X G O F H) → u ≡ calling k s → hand v ≡ hand u → t ≡ calling j v → CastsInto (cast_into e u.shape.workers) n u v → EntersForAll k e s.shape.workers n s t
-  exchanged_for_all j k e n s u v t a b c d = subst (λ (z : Visit X G O F H). CastsInto (cast_into e s.shape.workers) n (calling k s) z) (sym (own_call j k s u v t a (ap (λ (z : Hand X G O F H). z.call) b) c)) (subst (λ (z : Visit X G O F H). CastsInto (cast_into e z.shape.workers) n z v) a d)
+  exchanged_for_all j k e n s u v t a b c d =
+      let same = own_call j k s u v t a (ap (λ (z : Hand X G O F H). z.call) b) c in
+      let into = subst (λ (z : Visit X G O F H). CastsInto (cast_into e z.shape.workers) n z v) a d in
+      subst (λ (z : Visit X G O F H). CastsInto (cast_into e s.shape.workers) n (calling k s) z) (sym same) into
 
-  pub exchanged_for_none : (j k : Option TicketOf) (e : Entry) (s u v t : Visit X G O F H) → j ≡ s.call → u ≡ calling k s → hand v ≡ hand u → t ≡ calling j v → (v ≡ u) ⊎ HandsBack (Stay (at.RaiseForAll (cast_into e u.shape.workers))) (cast_into e u.shape.workers) u v → EntersForNone k e s.shape.workers s t
+  pub exchanged_for_none : (j k : Option TicketOf) (e : Entry) (s u v t : Visit X G O F H) → j ≡ s.call → u ≡ calling k s → hand v ≡ hand u → t ≡ calling j v →
+      (v ≡ u) ⊎ HandsBack (Stay (at.RaiseForAll (cast_into e u.shape.workers))) (cast_into e u.shape.workers) u v → EntersForNone k e s.shape.workers s t
   exchanged_for_none j k e s u v t o a b c (inl d) = inl (c ∙ ap (λ (z : Visit X G O F H). calling j z) (d ∙ a) ∙ ap (λ (z : Option TicketOf). calling z s) o)
-  exchanged_for_none j k e s u v t o a b c (inr d) = inr (subst (λ (z : Visit X G O F H). HandsBack (Stay (at.RaiseForAll (cast_into e s.shape.workers))) (cast_into e s.shape.workers) (calling k s) z) (sym (own_call j k s u v t a (ap (λ (z : Hand X G O F H). z.call) b) c)) (subst (λ (z : Visit X G O F H). HandsBack (Stay (at.RaiseForAll (cast_into e z.shape.workers))) (cast_into e z.shape.workers) z v) a d))
+  exchanged_for_none j k e s u v t o a b c (inr d) =
+      let same = own_call j k s u v t a (ap (λ (z : Hand X G O F H). z.call) b) c in
+      let back = subst (λ (z : Visit X G O F H). HandsBack (Stay (at.RaiseForAll (cast_into e z.shape.workers))) (cast_into e z.shape.workers) z v) a d in
+      inr (subst (λ (z : Visit X G O F H). HandsBack (Stay (at.RaiseForAll (cast_into e s.shape.workers))) (cast_into e s.shape.workers) (calling k s) z) (sym same) back)

@@ -59,7 +59,7 @@ module _ {X G O F H : Type 0} where
   kept_dealt n m b _ v i k = absurd i
 
   -- the number of a book matters to a load that was pushed alone
-  kept_numbered : (p n : Plan) (b s : Hand X G O F H) (m : ℕ) → Fits n s.load s.call → IsEnter n → Kept (plan_job p) b s → KeptIn (plan_job p) m b s.load s.inlet
+  kept_numbered : (p n : Plan) (b s : Hand X G O F H) (m : ℕ) → Fits s.workers n s.load s.call → IsEnter n → Kept (plan_job p) b s → KeptIn (plan_job p) m b s.load s.inlet
   kept_numbered p (Enter e) b s m f i k = by s.load f.2 k
     where
       by : (l : Option (Load X G O F H)) → IsScoped l → KeptIn (plan_job p) s.slot b l s.inlet → KeptIn (plan_job p) m b l s.inlet
@@ -121,7 +121,7 @@ module _ {X G O F H : Type 0} where
 
       keeps : (v w : Visit X G O F H) (y : Place) (x : Seen) → is_rest y ≡ false → At p (hand v) (Stay y) × KeepsAll p s v → Does (act_of (Caller 0) y) x v w → At p (hand w) (next_of h (Caller 0) y x) × KeepsAll p s w
       keeps v w y x r b e = (
-        subst (λ (z : Hand X G O F H). At p z (next_of h (Caller 0) y x)) (sym e.0) (at_on v.shape.workers p (hand v) (hand w) h y x e.3 b.0),
+        subst (λ (z : Hand X G O F H). At p z (next_of h (Caller 0) y x)) (sym e.0) (at_on p (hand v) (hand w) h y x e.3 b.0),
         (
           subst (λ (z : Hand X G O F H). Kept (plan_job p) (hand s) z) (sym e.0) (kept_on p (hand s) (hand v) (hand w) y x b.0 b.1.0),
           subst (λ (z : Hand X G O F H). KeepsCall p s.call z.call) (sym e.0) (call_kept p s.call (hand v) (hand w) y x b.0 b.1.1),
@@ -136,18 +136,18 @@ module _ {X G O F H : Type 0} where
   no_body p s _ n c a = absurd a
 
   -- such is one that queues a load
-  pub load_whole : (p : Plan) (l : Load X G O F H) (k : Option TicketOf) → Fits p (Some l) k → IsWhole p
-  load_whole (Open o) l k f = true≢false (ap (λ (z : Option (Load X G O F H)). elim z [ Some w ↦ true | None ↦ false ]) f.1)
-  load_whole (Send o) l k f = tt
-  load_whole (Detach r n) l k f = tt
-  load_whole (Enter e) l k f = tt
-  load_whole (Gather g) l k f = tt
-  load_whole _ l k f = absurd f
+  pub load_whole : (w : ℕ) (p : Plan) (l : Load X G O F H) (k : Option TicketOf) → Fits w p (Some l) k → IsWhole p
+  load_whole w (Open o) l k f = true≢false (ap (λ (z : Option (Load X G O F H)). elim z [ Some w ↦ true | None ↦ false ]) f.1)
+  load_whole w (Send o) l k f = tt
+  load_whole w (Detach r n) l k f = tt
+  load_whole w (Enter e) l k f = tt
+  load_whole w (Gather g) l k f = tt
+  load_whole w _ l k f = absurd f
 
   -- and none hands pieces back
-  pub hands_none : (p : Plan) (l : Load X G O F H) (k : Option TicketOf) → Fits p (Some l) k → HandsAll p → ⊥
-  hands_none (Here r n) l k f h = f
-  hands_none _ l k f h = h
+  pub hands_none : (w : ℕ) (p : Plan) (l : Load X G O F H) (k : Option TicketOf) → Fits w p (Some l) k → HandsAll p → ⊥
+  hands_none w (Here r n) l k f h = f
+  hands_none w _ l k f h = h
 
   -- a scope's body begins to run, under the name of its call
   pub begun : (s t : Visit X G O F H) (o : OpenCall) (y : Place) (n k : ℕ) → o ≡ call_of k → At (Open o) (hand t) (StartRun y n) → So s.shape (Stay (at.RaiseCount (Open o))) s (StartRun y n) t → So s.shape (Stay (at.RaiseCount (opening k))) s (StartRun (at.ScopeBody (call_of k)) k) t

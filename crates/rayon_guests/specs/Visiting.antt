@@ -32,7 +32,7 @@ use Rattle.rayon_guests.specs.declared.load.Load.{Load}
 use Rattle.rayon_guests.specs.declared.load.Load.TheVariants.{Cast, Job, Sides, Detached, Scoped}
 use Rattle.rayon_shared.specs.AtHand.{HasTicket}
 use Rattle.rayon_shared.specs.Marks.{IsScope, scope_in}
-use Rattle.rayon_guests.specs.Visits.{Visit, Hand, hand, Needs, Does, Grown, GrownFor, HasCall, HasCount, IsCast, IsNewScope, LentFor, Packed, after, detached_ticket, first_of, if_done, sent, ticket_of, unit_after}
+use Rattle.rayon_guests.specs.Visits.{Visit, Hand, hand, Needs, Does, Grown, GrownFor, HasCall, HasCount, IsCast, IsNewCast, IsNewScope, LentFor, Packed, after, detached_ticket, first_of, if_done, sent, ticket_of, unit_after}
 
 -- who waits for a scope's end is a worker of the one pool that there is, or an outside caller
 abbrev pub IsHere : Party → Type 0
@@ -107,34 +107,35 @@ module _ {X G O F H : Type 0} where
   IsScoped (Some (Scoped j k)) = (is_some k.scope ≡ true) × (k.slot ≡ 0)
   IsScoped _ = ⊥
 
-  -- a call of this plan queues this load, and has this ticket in hand: a spawn into a scope one of the scope
-  abbrev pub Fits : Plan → Option (Load X G O F H) → Option TicketOf → Type 0
-  Fits (Send o) l k = (o.pool ≡ 0) × (o.number ≡ o.job) × IsAwaited l
-  Fits (Detach p n) l k = (p ≡ 0) × IsDetached (detached_ticket n) l
-  Fits (Open o) l k = (o.pool ≡ 0) × (l ≡ None)
-  Fits (Enter e) l k = (e.pool ≡ 0) × IsHere e.owner × IsScoped l × IsScope (scope_in k) e.call
-  Fits (Gather g) l k = (g.call.pool ≡ 0) × IsCast l × (g.pieces.first + g.pieces.workers < 2 ^ 64)
-  Fits _ l k = ⊥
+  -- a call of this plan queues this load in a pool of so many workers, and has this ticket in hand: a spawn into a scope one of
+  -- the scope. A broadcast is to all workers, and its pieces have shares of its own count
+  abbrev pub Fits : ℕ → Plan → Option (Load X G O F H) → Option TicketOf → Type 0
+  Fits w (Send o) l k = (o.pool ≡ 0) × (o.number ≡ o.job) × IsAwaited l
+  Fits w (Detach p n) l k = (p ≡ 0) × IsDetached (detached_ticket n) l
+  Fits w (Open o) l k = (o.pool ≡ 0) × (l ≡ None)
+  Fits w (Enter e) l k = (e.pool ≡ 0) × IsHere e.owner × IsScoped l × IsScope (scope_in k) e.call
+  Fits w (Gather g) l k = (g.call.pool ≡ 0) × IsCast l × (g.pieces.first + g.pieces.workers < 2 ^ 64) × (g.pieces.workers ≡ w) × (g.pieces.count ≡ OfCast g.call.number (Caller 0))
+  Fits w _ l k = ⊥
 
   -- what is in hand where workers have been woken and latches set, in a call of this plan: the load was queued and the call
   -- waits, or is over; or it hands the load back
   abbrev pub Next : Plan → Hand X G O F H → Move → Type 0
   Next p s (Stay (at.WaitForLock o)) = HasCall o.number s.call × (o.pool ≡ 0) × (s.holds ≡ true) × (s.load ≡ None) × IsWhole p
   Next p s Back = (s.holds ≡ false) × (s.load ≡ None) × IsWhole p
-  Next p s (HandBack n) = (n ≡ p) × (s.holds ≡ false) × Fits n s.load s.call
+  Next p s (HandBack n) = (n ≡ p) × (s.holds ≡ false) × Fits s.workers n s.load s.call
   Next p s _ = ⊥
 
   -- what is in hand beside what the act asks
   abbrev pub Holds : Plan → Hand X G O F H → Place → Type 0
-  Holds p s (at.RaiseCount n) = (n ≡ p) × Fits n s.load s.call × (s.holds ≡ false)
-  Holds p s (at.GrowCall n) = (n ≡ p) × Fits n s.load s.call × (s.holds ≡ true) × IsSend n
+  Holds p s (at.RaiseCount n) = (n ≡ p) × Fits s.workers n s.load s.call × (s.holds ≡ false)
+  Holds p s (at.GrowCall n) = (n ≡ p) × Fits s.workers n s.load s.call × (s.holds ≡ true) × IsSend n
   Holds p s (at.GrowScope o) = (Open o ≡ p) × (o.pool ≡ 0) × (s.load ≡ None) × (s.holds ≡ true)
-  Holds p s (at.GrowCast g) = (Gather g ≡ p) × Fits (Gather g) s.load s.call × (s.holds ≡ true)
-  Holds p s (at.DealPieces g) = (Gather g ≡ p) × Fits (Gather g) s.load s.call × (s.holds ≡ true) × HasCall g.call.number s.call
-  Holds p s (at.OpenSlot n) = (n ≡ p) × Fits n s.load s.call × (s.holds ≡ false) × IsEnter n
-  Holds p s (at.CloseSlot n) = (n ≡ p) × Fits n s.load s.call × (s.holds ≡ false) × IsEnter n
-  Holds p s (at.LookQueue n) = (n ≡ p) × Fits n s.load s.call × (s.holds ≡ has_unit n) × Needs (act_of (Caller 0) (at.PushJob n true)) s
-  Holds p s (at.PushJob n e) = (n ≡ p) × Fits n s.load s.call × (s.holds ≡ has_unit n)
+  Holds p s (at.GrowCast g) = (Gather g ≡ p) × Fits s.workers (Gather g) s.load s.call × (s.holds ≡ true)
+  Holds p s (at.DealPieces g) = (Gather g ≡ p) × Fits s.workers (Gather g) s.load s.call × (s.holds ≡ true) × HasCall g.call.number s.call
+  Holds p s (at.OpenSlot n) = (n ≡ p) × Fits s.workers n s.load s.call × (s.holds ≡ false) × IsEnter n
+  Holds p s (at.CloseSlot n) = (n ≡ p) × Fits s.workers n s.load s.call × (s.holds ≡ false) × IsEnter n
+  Holds p s (at.LookQueue n) = (n ≡ p) × Fits s.workers n s.load s.call × (s.holds ≡ has_unit n) × Needs (act_of (Caller 0) (at.PushJob n true)) s
+  Holds p s (at.PushJob n e) = (n ≡ p) × Fits s.workers n s.load s.call × (s.holds ≡ has_unit n)
   Holds p s (at.TellNews n e) = Next p s (finish (Caller 0) (after_news n))
   Holds p s (at.LockToWake k) = Next p s (finish (Caller 0) k.then)
   Holds p s (at.WakeWorker k) = Next p s (finish (Caller 0) k.then)
@@ -250,7 +251,7 @@ module _ {X G O F H : Type 0} where
   unraised_at p _ s t x e a = absurd a.1.1
 
   -- it gives that back, since it was refused
-  undo_at : (p n : Plan) (s : Hand X G O F H) → n ≡ p → Fits n s.load s.call → s.holds ≡ has_unit n → At p s (Stay (undo n))
+  undo_at : (p n : Plan) (s : Hand X G O F H) → n ≡ p → Fits s.workers n s.load s.call → s.holds ≡ has_unit n → At p s (Stay (undo n))
   undo_at p (Send o) s e f h = ((f.0, h), (e, refl, f))
   undo_at p (Detach r n) s e f h = ((f.0, h), (e, refl, f))
   undo_at p (Open o) s e f h = ((f.0, h), (e, refl, f))
@@ -258,7 +259,7 @@ module _ {X G O F H : Type 0} where
   undo_at p (Gather g) s e f h = ((f.0, h), (e, refl, f))
   undo_at p _ s e f h = absurd f
 
-  unnumbered_at : (p n : Plan) (s : Hand X G O F H) → n ≡ p → Fits n s.load s.call → s.holds ≡ false → IsEnter n → At p s (Stay (undo n))
+  unnumbered_at : (p n : Plan) (s : Hand X G O F H) → n ≡ p → Fits s.workers n s.load s.call → s.holds ≡ false → IsEnter n → At p s (Stay (undo n))
   unnumbered_at p (Enter x) s e f h i = undo_at p (Enter x) s e f h
   unnumbered_at p _ s e f h i = absurd i
 
@@ -272,44 +273,51 @@ module _ {X G O F H : Type 0} where
   unpushed_at p _ s e a = absurd a.1.1
 
   -- the tickets of a call are made
-  grown_at : (w : ℕ) (p n : Plan) (s : Hand X G O F H) (k m : Option TicketOf) → n ≡ p → Fits n s.load s.call → s.holds ≡ true → IsSend n → GrownFor w (plan_call n) s.load k → At p (record s { call = k; first = first_of (plan_call n) s.load; lent = m }) (Stay (at.LookQueue n))
-  grown_at w p (Send o) s k m e f h i g = (f.0, (e, f, h, (f.0, tt, packed s.load f.2 g)))
+  grown_at : (p n : Plan) (s : Hand X G O F H) (k m : Option TicketOf) → n ≡ p → Fits s.workers n s.load s.call → s.holds ≡ true → IsSend n → GrownFor s.workers (plan_call n) s.load k → At p (record s { call = k; first = first_of (plan_call n) s.load; lent = m }) (Stay (at.LookQueue n))
+  grown_at p (Send o) s k m e f h i g = (f.0, (e, f, h, (f.0, tt, packed s.load f.2 g)))
     where
       same : (z : Option TicketOf) → z ≡ Some (ticket_of o.number) → z ≡ Some (ticket_of o.job)
       same z a = a ∙ ap (λ (c : ℕ). Some (ticket_of c)) f.1
 
-      packed : (l : Option (Load X G O F H)) → IsAwaited l → GrownFor w o.number l k → Packed o.job l k (first_of o.number l)
+      packed : (l : Option (Load X G O F H)) → IsAwaited l → GrownFor s.workers o.number l k → Packed o.job l k (first_of o.number l)
       packed (Some (Job j)) a b = same k b
       packed (Some (Sides x y)) a b = (same k b, same (Some (ticket_of o.number)) refl)
       packed _ a b = absurd a
-  grown_at w p _ s k m e f h i g = absurd i
+  grown_at p _ s k m e f h i g = absurd i
 
   -- the tickets were refused
   ungrown_at : (p n : Plan) (s : Hand X G O F H) (k m : Option TicketOf) → k ≡ s.call → m ≡ s.lent → At p s (Stay (undo n)) → At p (record s { call = k; lent = m }) (Stay (undo n))
   ungrown_at p n s k m e f a = subst (λ (z : Option TicketOf). At p (record s { call = k; lent = z }) (Stay (undo n))) (sym f) (subst (λ (z : Option TicketOf). At p (record s { call = z }) (Stay (undo n))) (sym e) a)
 
   -- the ticket of a broadcast is made
-  cast_at : (w : ℕ) (p : Plan) (s t : Hand X G O F H) (g : Gathering) → At p s (Stay (at.GrowCast g)) → GrownFor w g.call.number s.load t.call → At p (after (acts.Grow g.call.number) Done t s) (Stay (at.DealPieces g))
-  cast_at w p s t g a m = ((a.1.1.1, a.1.1.2, (g.call.number, own)), (a.1.0, a.1.1, a.1.2, own))
+  cast_at : (p : Plan) (s t : Hand X G O F H) (g : Gathering) → At p s (Stay (at.GrowCast g)) → GrownFor s.workers g.call.number s.load t.call → At p (after (acts.Grow g.call.number) Done t s) (Stay (at.DealPieces g))
+  cast_at p s t g a m = ((a.1.1.1, a.1.1.2, (g.call.number, a.1.1.4, all)), (a.1.0, a.1.1, a.1.2, own t.call new))
     where
-      by : (l : Option (Load X G O F H)) (k : Option TicketOf) → IsCast l → GrownFor w g.call.number l k → HasCall g.call.number k
-      by (Some (Cast j)) (Some u) i b = subst (λ (v : TicketOf). HasCall g.call.number (Some v)) (sym b.1) (b.2, refl, refl)
-      by (Some (Cast j)) None i b = absurd b
-      by _ k i b = absurd i
+      by : (l : Option (Load X G O F H)) → IsCast l → GrownFor s.workers g.call.number l t.call → IsNewCast s.workers g.call.number t.call
+      by (Some (Cast j)) i b = b
+      by _ i b = absurd i
 
-      own : HasCall g.call.number t.call
-      own = by s.load t.call a.1.1.1 m
+      new : IsNewCast s.workers g.call.number t.call
+      new = by s.load a.1.1.1 m
+
+      all : IsNewCast g.pieces.workers g.call.number t.call
+      all = subst (λ (w : ℕ). IsNewCast w g.call.number t.call) (sym a.1.1.3) new
+
+      own : (k : Option TicketOf) → IsNewCast s.workers g.call.number k → HasCall g.call.number k
+      own (Some u) b = subst (λ (v : TicketOf). HasCall g.call.number (Some v)) (sym b.1) (b.2, refl, refl)
+      own None b = absurd b
 
   -- the ticket of a scope is made, and its body begins to run
-  opened_at : (w : ℕ) (p : Plan) (s : Hand X G O F H) (o : OpenCall) (k f m : Option TicketOf) → Open o ≡ p → o.pool ≡ 0 → s.load ≡ None → s.holds ≡ true → GrownFor w o.number s.load k → LentFor s.load k s.lent m → Opened p (record s { call = k; first = f; lent = m }) o.job (at.ScopeBody o)
-  opened_at w p s o k f m q e l h g n = (q, refl, by k (subst (λ (z : Option (Load X G O F H)). GrownFor w o.number z k) l g), subst (λ (z : Option (Load X G O F H)). LentFor z k s.lent m) l n)
+  opened_at : (p : Plan) (s : Hand X G O F H) (o : OpenCall) (k f m : Option TicketOf) → Open o ≡ p → o.pool ≡ 0 → s.load ≡ None → s.holds ≡ true → GrownFor s.workers o.number s.load k → LentFor s.load k s.lent m → Opened p (record s { call = k; first = f; lent = m }) o.job (at.ScopeBody o)
+  opened_at p s o k f m q e l h g n = (q, refl, by k (subst (λ (z : Option (Load X G O F H)). GrownFor s.workers o.number z k) l g), subst (λ (z : Option (Load X G O F H)). LentFor z k s.lent m) l n)
     where
       by : (z : Option TicketOf) → IsNewScope o.number z → InBody o (record s { call = z; first = f; lent = m })
       by None a = absurd a
       by (Some u) a = subst (λ (v : TicketOf). InBody o (record s { call = Some v; first = f; lent = m })) (sym a.1) ((a.2, (a.2, refl, refl), e), h, l)
 
   -- the load was pushed
-  pushed_at : (p n : Plan) (s : Hand X G O F H) (v : Visitor (TaskOf X)) (b e : Bool) → n ≡ p → Fits n s.load s.call → s.holds ≡ has_unit n → Packed (plan_job n) s.load s.call s.first → At p (record s { inlet = v; load = None; holds = unit_after s.load s.holds; held = b }) (Stay (at.TellNews n e))
+  pushed_at : (p n : Plan) (s : Hand X G O F H) (v : Visitor (TaskOf X)) (b e : Bool) → n ≡ p → Fits s.workers n s.load s.call → s.holds ≡ has_unit n →
+      Packed (plan_job n) s.load s.call s.first → At p (record s { inlet = v; load = None; holds = unit_after s.load s.holds; held = b }) (Stay (at.TellNews n e))
   pushed_at p (Send o) s v b e q f h k = (f.0, by s.load f.2 k)
     where
       call : (z : Option TicketOf) → z ≡ Some (ticket_of o.job) → HasCall o.number z
@@ -338,57 +346,57 @@ module _ {X G O F H : Type 0} where
   pushed_at p _ s v b e q f h k = absurd f
 
   -- a number of the scope's book is opened
-  numbered_at : (p n : Plan) (s : Hand X G O F H) (m : ℕ) → n ≡ p → Fits n s.load s.call → s.holds ≡ false → IsEnter n → At p (record s { slot = m; held = true }) (Stay (after_slot n))
+  numbered_at : (p n : Plan) (s : Hand X G O F H) (m : ℕ) → n ≡ p → Fits s.workers n s.load s.call → s.holds ≡ false → IsEnter n → At p (record s { slot = m; held = true }) (Stay (after_slot n))
   numbered_at p (Enter x) s m e f h i = (f.0, (e, f, h, (f.0, (f.3, refl), scoped_packed x.job s.load s.call s.first f.2)))
   numbered_at p _ s m e f h i = absurd i
 
   -- after each act there is what belongs to where the table leads
-  pub at_on : (w : ℕ) (p : Plan) (s t : Hand X G O F H) (h : PoolShape) (y : Place) (x : Seen) → Grown w (act_of (Caller 0) y) x s t → At p s (Stay y) → At p (after (act_of (Caller 0) y) x t s) (next_of h (Caller 0) y x)
-  at_on w p s t h (at.RaiseCount n) Done g a = raised_at p n s t a
-  at_on w p s t h (at.RaiseCount n) x g a = unraised_at p n s t x refl a
-  at_on w p s t h (at.GrowCall n) Done g a = grown_at w p n s t.call t.lent a.1.0 a.1.1 a.1.2 a.1.3 g.0
-  at_on w p s t h (at.GrowCall n) _ g a = ungrown_at p n s t.call t.lent g.0 g.1 (undo_at p n s a.1.0 a.1.1 (unit n a.1.3 a.1.2))
+  pub at_on : (p : Plan) (s t : Hand X G O F H) (h : PoolShape) (y : Place) (x : Seen) → Grown (act_of (Caller 0) y) x s t → At p s (Stay y) → At p (after (act_of (Caller 0) y) x t s) (next_of h (Caller 0) y x)
+  at_on p s t h (at.RaiseCount n) Done g a = raised_at p n s t a
+  at_on p s t h (at.RaiseCount n) x g a = unraised_at p n s t x refl a
+  at_on p s t h (at.GrowCall n) Done g a = grown_at p n s t.call t.lent a.1.0 a.1.1 a.1.2 a.1.3 g.0
+  at_on p s t h (at.GrowCall n) _ g a = ungrown_at p n s t.call t.lent g.0 g.1 (undo_at p n s a.1.0 a.1.1 (unit n a.1.3 a.1.2))
     where
       unit : (m : Plan) → IsSend m → s.holds ≡ true → s.holds ≡ has_unit m
       unit (Send o) i e = e
       unit _ i e = absurd i
-  at_on w p s t h (at.GrowScope o) Done g a = opened_at w p s o t.call (first_of o.number s.load) t.lent a.1.0 a.1.1 a.1.2 a.1.3 g.0 g.1
-  at_on w p s t h (at.GrowScope o) _ g a = ungrown_at p (Open o) s t.call t.lent g.0 g.1 (undo_at p (Open o) s a.1.0 (a.1.1, a.1.2) a.1.3)
-  at_on w p s t h (at.GrowCast k) Done g a = cast_at w p s t k a g.0
-  at_on w p s t h (at.GrowCast k) _ g a = ungrown_at p (Gather k) s t.call t.lent g.0 g.1 (undo_at p (Gather k) s a.1.0 a.1.1 a.1.2)
-  at_on w p s t h (at.DealPieces k) Done g a = (a.1.1.0, (a.1.3, a.1.1.0, a.1.2, refl, whole_as p (Gather k) a.1.0 tt))
-  at_on w p s t h (at.DealPieces k) _ g a = undo_at p (Gather k) s a.1.0 a.1.1 a.1.2
-  at_on w p s t h (at.OpenSlot n) Done g a = numbered_at p n s t.slot a.1.0 a.1.1 a.1.2 a.1.3
-  at_on w p s t h (at.OpenSlot n) _ g a = unnumbered_at p n (record s { slot = t.slot }) a.1.0 a.1.1 a.1.2 a.1.3
-  at_on w p s t h (at.CloseSlot n) _ g a = unnumbered_at p n (record s { held = false }) a.1.0 a.1.1 a.1.2 a.1.3
-  at_on w p s t h (at.LookQueue n) Yes g a = (a.1.3, (a.1.0, a.1.1, a.1.2))
-  at_on w p s t h (at.LookQueue n) _ g a = (a.1.3, (a.1.0, a.1.1, a.1.2))
-  at_on w p s t h (at.PushJob n e) Done g a = pushed_at p n s (sent (plan_job n) s.slot s.load s.inlet) false e a.1.0 a.1.1 a.1.2 a.0.2
-  at_on w p s t h (at.PushJob n e) _ g a = unpushed_at p n s e a
-  at_on w p s t h (at.TellNews n e) (Wakes k) g a = walk_at p s h (plan_pool n) k 0 (after_news n) a.0 a.1
-  at_on w p s t h (at.TellNews n e) _ g a = a
-  at_on w p s t h (at.LockToWake k) _ g a = a
-  at_on w p s t h (at.WakeWorker k) Yes g a = a
-  at_on w p s t h (at.WakeWorker k) _ g a = a
-  at_on w p s t h (at.UnlockWoken k) _ g a = walk_at p s h k.pool k.owed (k.worker + 1) k.then a.0 a.1
-  at_on w p s t h (at.WaitForLock o) _ g a = a
-  at_on w p s t h (at.TakeResult o f) (Found e) g a = ((a.1.0, a.1.1), (refl, a.1.2, a.1.3))
-  at_on w p s t h (at.TakeResult o f) _ g a = ((a.1.0, a.1.1), (refl, a.1.2, a.1.3))
-  at_on w p s t h (at.StoreBody o e) _ g a = (a.0, (tt, a.1))
-  at_on w p s t h (at.LowerCount (OfPool r) b c) Yes g a = settle_at p (record s { holds = false }) h r 0 c a.0.0 a.1
-  at_on w p s t h (at.LowerCount (OfPool r) b c) _ g a = next_at p (record s { holds = false }) (finish (Caller 0) c) a.1
-  at_on w p s t h (at.LowerCount (OfScope n q) b c) Yes g a = set_call_at p s n q c a.0 a.1.0 a.1.1
-  at_on w p s t h (at.LowerCount (OfScope n q) b c) _ g a = next_at p s (finish (Caller 0) c) a.1.1
-  at_on w p s t h (at.LowerForAll c) Yes g a = ends_at p s c.count a.0 a.1.1 a.1.2
-  at_on w p s t h (at.LowerForAll c) _ g a = (a.1.0, a.1.2)
-  at_on w p s t h (at.SetLatch x) Yes g a = (a.0.0, a.1)
-  at_on w p s t h (at.SetLatch x) _ g a = after_set_at p s h x x.latch a.0.0 a.1
-  at_on w p s t h (at.LockToSettle x) _ g a = a
-  at_on w p s t h (at.WakeSettled x) _ g a = a
-  at_on w p s t h (at.UnlockSettled x) _ g a = after_set_at p s h x x.latch a.0 a.1
-  at_on w p s t h (at.SetLockLatch c n) _ g a = next_at p s (finish (Caller 0) n) a.1
-  at_on w p s t h (at.LowerCount _ b c) _ g a = absurd a.0
-  at_on w p s t h _ _ g a = absurd a.1
+  at_on p s t h (at.GrowScope o) Done g a = opened_at p s o t.call (first_of o.number s.load) t.lent a.1.0 a.1.1 a.1.2 a.1.3 g.0 g.1
+  at_on p s t h (at.GrowScope o) _ g a = ungrown_at p (Open o) s t.call t.lent g.0 g.1 (undo_at p (Open o) s a.1.0 (a.1.1, a.1.2) a.1.3)
+  at_on p s t h (at.GrowCast k) Done g a = cast_at p s t k a g.0
+  at_on p s t h (at.GrowCast k) _ g a = ungrown_at p (Gather k) s t.call t.lent g.0 g.1 (undo_at p (Gather k) s a.1.0 a.1.1 a.1.2)
+  at_on p s t h (at.DealPieces k) Done g a = (a.1.1.0, (a.1.3, a.1.1.0, a.1.2, refl, whole_as p (Gather k) a.1.0 tt))
+  at_on p s t h (at.DealPieces k) _ g a = undo_at p (Gather k) s a.1.0 a.1.1 a.1.2
+  at_on p s t h (at.OpenSlot n) Done g a = numbered_at p n s t.slot a.1.0 a.1.1 a.1.2 a.1.3
+  at_on p s t h (at.OpenSlot n) _ g a = unnumbered_at p n (record s { slot = t.slot }) a.1.0 a.1.1 a.1.2 a.1.3
+  at_on p s t h (at.CloseSlot n) _ g a = unnumbered_at p n (record s { held = false }) a.1.0 a.1.1 a.1.2 a.1.3
+  at_on p s t h (at.LookQueue n) Yes g a = (a.1.3, (a.1.0, a.1.1, a.1.2))
+  at_on p s t h (at.LookQueue n) _ g a = (a.1.3, (a.1.0, a.1.1, a.1.2))
+  at_on p s t h (at.PushJob n e) Done g a = pushed_at p n s (sent (plan_job n) s.slot s.load s.inlet) false e a.1.0 a.1.1 a.1.2 a.0.2
+  at_on p s t h (at.PushJob n e) _ g a = unpushed_at p n s e a
+  at_on p s t h (at.TellNews n e) (Wakes k) g a = walk_at p s h (plan_pool n) k 0 (after_news n) a.0 a.1
+  at_on p s t h (at.TellNews n e) _ g a = a
+  at_on p s t h (at.LockToWake k) _ g a = a
+  at_on p s t h (at.WakeWorker k) Yes g a = a
+  at_on p s t h (at.WakeWorker k) _ g a = a
+  at_on p s t h (at.UnlockWoken k) _ g a = walk_at p s h k.pool k.owed (k.worker + 1) k.then a.0 a.1
+  at_on p s t h (at.WaitForLock o) _ g a = a
+  at_on p s t h (at.TakeResult o f) (Found e) g a = ((a.1.0, a.1.1), (refl, a.1.2, a.1.3))
+  at_on p s t h (at.TakeResult o f) _ g a = ((a.1.0, a.1.1), (refl, a.1.2, a.1.3))
+  at_on p s t h (at.StoreBody o e) _ g a = (a.0, (tt, a.1))
+  at_on p s t h (at.LowerCount (OfPool r) b c) Yes g a = settle_at p (record s { holds = false }) h r 0 c a.0.0 a.1
+  at_on p s t h (at.LowerCount (OfPool r) b c) _ g a = next_at p (record s { holds = false }) (finish (Caller 0) c) a.1
+  at_on p s t h (at.LowerCount (OfScope n q) b c) Yes g a = set_call_at p s n q c a.0 a.1.0 a.1.1
+  at_on p s t h (at.LowerCount (OfScope n q) b c) _ g a = next_at p s (finish (Caller 0) c) a.1.1
+  at_on p s t h (at.LowerForAll c) Yes g a = ends_at p s c.count a.0 a.1.1 a.1.2
+  at_on p s t h (at.LowerForAll c) _ g a = (a.1.0, a.1.2)
+  at_on p s t h (at.SetLatch x) Yes g a = (a.0.0, a.1)
+  at_on p s t h (at.SetLatch x) _ g a = after_set_at p s h x x.latch a.0.0 a.1
+  at_on p s t h (at.LockToSettle x) _ g a = a
+  at_on p s t h (at.WakeSettled x) _ g a = a
+  at_on p s t h (at.UnlockSettled x) _ g a = after_set_at p s h x x.latch a.0 a.1
+  at_on p s t h (at.SetLockLatch c n) _ g a = next_at p s (finish (Caller 0) n) a.1
+  at_on p s t h (at.LowerCount _ b c) _ g a = absurd a.0
+  at_on p s t h _ _ g a = absurd a.1
 
   -- the laws of the performer, which is an outside caller
   pub guest_needs : (u : Visit X G O F H) (q : Party) (y : Place) → is_rest y ≡ false → (q ≡ Caller 0) × Stands (hand u) (Stay y) → Needs (act_of q y) (hand u)
@@ -400,5 +408,5 @@ module _ {X G O F H : Type 0} where
   pub guest_on : (u v : Visit X G O F H) (h : PoolShape) (q : Party) (y : Place) (x : Seen) → is_rest y ≡ false → (q ≡ Caller 0) × Stands (hand u) (Stay y) → Does (act_of q y) x u v → (q ≡ Caller 0) × Stands (hand v) (next_of h q y x)
   guest_on u v h q y x r a d =
       let own = subst (λ (z : Party). Does (act_of z y) x u v) a.0 d in
-      let on = subst (λ (z : Hand X G O F H). At a.1.0 z (next_of h (Caller 0) y x)) (sym own.0) (at_on u.shape.workers a.1.0 (hand u) (hand v) h y x own.3 a.1.1) in
+      let on = subst (λ (z : Hand X G O F H). At a.1.0 z (next_of h (Caller 0) y x)) (sym own.0) (at_on a.1.0 (hand u) (hand v) h y x own.3 a.1.1) in
       (a.0, subst (λ (z : Party). Stands (hand v) (next_of h z y x)) (sym a.0) (a.1.0, on))

@@ -1,10 +1,11 @@
 -- What an outside caller has for the time of one call, and what each act of the call does to it.
 use Rattle.std.specs.Prelude.{◌≡◌, ℕ, ◌≤◌, ◌<◌, ◌+◌, ◌^◌, ◌++◌, [], ◌∷◌, List, length, Bool, true, false, if◌then◌else◌, is_some, Option, None, Some, Result}
 use Rattle.rayon_machine_places.specs.declared.place.Count.{Count}
-use Rattle.rayon_machine_places.specs.declared.place.Count.TheVariants.{OfPool, OfScope}
+use Rattle.rayon_machine_places.specs.declared.place.Count.TheVariants.{OfCast, OfPool, OfScope}
 use Rattle.rayon_machine_places.specs.declared.place.Party.{Party}
 use Rattle.rayon_machine_places.specs.declared.place.Party.TheVariants.{Caller}
 use Rattle.rayon_machine_places.specs.declared.place.OpenCall.{OpenCall}
+use Rattle.rayon_machine_places.specs.declared.place.Pieces.{Pieces}
 use Rattle.rayon_machine_places.specs.declared.place.Plan.{Plan}
 use Rattle.rayon_machine_places.specs.declared.place.Plan.TheVariants.{Send, Open as Opening}
 use Rattle.rayon_machine_places.specs.declared.place.Latch.{Latch}
@@ -68,8 +69,9 @@ pub record Pause : Type 0 where
   pub seat : Teller
   pub trace : Log
 
--- what of it the places ask
+-- what of it the places ask, with how many workers the pool has
 pub record Hand (X G O F H : Type 0) : Type 0 where
+  pub workers : ℕ
   pub inlet : Visitor (TaskOf X)
   pub load : Option (Load X G O F H)
   pub call : Option TicketOf
@@ -118,6 +120,10 @@ IsNewScope c (Some u) = IsScopeOf (Caller 0) c u
 abbrev pub IsNewCast : ℕ → ℕ → Option TicketOf → Type 0
 IsNewCast w c None = ⊥
 IsNewCast w c (Some u) = IsBroadcastOf (Caller 0) c w u
+
+-- the ticket is that of a new broadcast to the workers of these pieces, under the count that the pieces have shares of
+abbrev pub CastsTo : Pieces → Option TicketOf → Type 0
+CastsTo c k = (n : ℕ) × (c.count ≡ OfCast n (Caller 0)) × IsNewCast c.workers n k
 
 -- the book of this scope is held, where the load has a number of one
 abbrev pub HasBook : Option ℕ → Option TicketOf → Bool → Type 0
@@ -320,8 +326,13 @@ module _ {X G O F H : Type 0} where
   IsCast (Some (Cast j)) = Unit {0}
   IsCast _ = ⊥
 
+  -- the load is no job of a broadcast that waits
+  abbrev pub IsNoCast : Load X G O F H → Type 0
+  IsNoCast (Cast j) = ⊥
+  IsNoCast _ = Unit {0}
+
   abbrev pub hand : Visit X G O F H → Hand X G O F H
-  hand s = record { inlet = s.inlet; load = s.load; call = s.call; first = s.first; lent = s.lent; slot = s.slot; held = is_some s.book; holds = s.holds }
+  hand s = record { workers = s.shape.workers; inlet = s.inlet; load = s.load; call = s.call; first = s.first; lent = s.lent; slot = s.slot; held = is_some s.book; holds = s.holds }
 
   -- what an act asks. The acts that stand under ⊥ are no caller's
   abbrev pub Needs : Act → Hand X G O F H → Type 0
@@ -332,7 +343,7 @@ module _ {X G O F H : Type 0} where
   Needs (acts.SlotUndo c n) s = IsScope (scope_in s.call) c × (s.held ≡ true)
   Needs (acts.LookInj p) s = p ≡ 0
   Needs (acts.PushInj p n b) s = (p ≡ 0) × HasBook b s.call s.held × Packed n s.load s.call s.first
-  Needs (acts.PushCast c) s = IsCast s.load × (c.first + c.workers < 2 ^ 64) × ((n : ℕ) × HasCall n s.call)
+  Needs (acts.PushCast c) s = IsCast s.load × (c.first + c.workers < 2 ^ 64) × CastsTo c s.call
   Needs (acts.News p e) s = p ≡ 0
   Needs (acts.Lock p i) s = p ≡ 0
   Needs (acts.Wake p i) s = p ≡ 0
@@ -371,11 +382,11 @@ module _ {X G O F H : Type 0} where
   LentFor None k old l = l ≡ k
   LentFor (Some w) k old l = l ≡ old
 
-  -- what tickets an act made, in a pool of so many workers
-  abbrev pub Grown : ℕ → Act → Seen → Hand X G O F H → Hand X G O F H → Type 0
-  Grown w (acts.Grow c) Done s t = GrownFor w c s.load t.call × LentFor s.load t.call s.lent t.lent
-  Grown w (acts.Grow c) _ s t = (t.call ≡ s.call) × (t.lent ≡ s.lent)
-  Grown w _ x s t = Unit {0}
+  -- what tickets an act made
+  abbrev pub Grown : Act → Seen → Hand X G O F H → Hand X G O F H → Type 0
+  Grown (acts.Grow c) Done s t = GrownFor s.workers c s.load t.call × LentFor s.load t.call s.lent t.lent
+  Grown (acts.Grow c) _ s t = (t.call ≡ s.call) × (t.lent ≡ s.lent)
+  Grown _ x s t = Unit {0}
 
   -- what it finds
   abbrev pub Finds : Act → Seen → Visit X G O F H → Visit X G O F H → Type 0
@@ -437,4 +448,4 @@ module _ {X G O F H : Type 0} where
 
   -- what each act of a caller does
   abbrev pub Does : Act → Seen → Visit X G O F H → Visit X G O F H → Type 0
-  Does a x s t = (hand t ≡ after a x (hand t) (hand s)) × (t.shape ≡ s.shape) × (t.count ≡ s.count) × Grown s.shape.workers a x (hand s) (hand t) × Finds a x s t × Numbers a x s t × Marked a x s t × Shares a x s t × Told a x s t × Sees a x
+  Does a x s t = (hand t ≡ after a x (hand t) (hand s)) × (t.shape ≡ s.shape) × (t.count ≡ s.count) × Grown a x (hand s) (hand t) × Finds a x s t × Numbers a x s t × Marked a x s t × Shares a x s t × Told a x s t × Sees a x

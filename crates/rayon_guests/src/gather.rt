@@ -1,15 +1,18 @@
 //! The broadcasts of an outside caller that wait: one piece for each worker, all queued at once, then each worker is
 //! called, and then the caller blocks until all pieces have ended.
 ghost use Rattle.std.specs.Prelude.{◌≡◌, ◌⊎◌, ◌<◌, ◌+◌, ◌^◌, None, Some, false, IfErr, IfSome, MatchResult};
+ghost use Rattle.rayon_drive.specs.Traces.{Adds};
+ghost use Rattle.rayon_machine_places.specs.declared.act.Act.TheVariants as acts;
 ghost use Rattle.rayon_machine_places.specs.declared.act.Seen.TheVariants as saw;
 ghost use Rattle.rayon_machine_places.specs.declared.place.Move.TheVariants.{Back, HandBack, Stay};
+ghost use Rattle.rayon_machine_places.specs.declared.place.Party.TheVariants.{Caller};
 ghost use Rattle.rayon_machine_places.specs.declared.place.Place.TheVariants as at;
 ghost use Rattle.rayon_guests.specs.declared.load.Load.TheVariants.{Cast};
 ghost use Rattle.rayon_guests.specs.Gathers.{gather_plan};
 ghost use Rattle.rayon_guests.specs.Paths.{CallerGoes};
 ghost use Rattle.rayon_guests.specs.Visiting.{Keeps};
-ghost use Rattle.rayon_guests.specs.Visits.{HasCall, IsCast, IsNewCast, IsTried, if_done};
-ghost use Rattle.rayon_tasks.specs.Pieces.{pieces_for};
+ghost use Rattle.rayon_guests.specs.Visits.{CastsTo, IsCast, IsNewCast, IsTried, if_done};
+ghost use Rattle.rayon_shared.specs.Casts.{AreTasksOf};
 
 use crate::guest::Guest;
 use crate::load::Load;
@@ -17,7 +20,7 @@ use crate::scope::open_call;
 use rayon_books::Outcome;
 use rayon_broadcasts::SharedJob;
 use rayon_jobs::JobKind;
-use rayon_machine_places::act::Seen;
+use rayon_machine_places::act::{Act, Seen};
 use rayon_machine_places::place::{Count, Gathering, Move, Party, Pieces, Place, Plan};
 use rayon_tasks::{Task, Ticket, pieces_of};
 use rayon_words::Refusal;
@@ -97,23 +100,25 @@ impl<'a, J: JobKind> Guest<'a, J> {
         Seen::Done
     }
 
-    // Makes the pieces of the broadcast whose job is in hand, and queues them. Where there is no room the job stays in
-    // hand.
+    // Makes the pieces of the broadcast whose job is in hand, and queues them, and adds the entry of that. Where there
+    // is no room the job stays in hand.
     pub(crate) fn push_cast<R: Wait>(&mut self, rt: &R, cast: Pieces) -> Seen
         requires load { IsCast self.old.load }
         requires row { cast.first + cast.workers < 2 ^ 64 }
-        requires called { (n : _) × HasCall n self.old.call }
-        ensures pushed { self.new ≡ record self.old { load = if_done result None self.old.load } }
+        requires called { CastsTo cast self.old.call }
+        ensures pushed { self.new ≡ record self.old { load = if_done result None self.old.load; trace = self.new.trace } }
+        ensures added { Adds (acts.PushCast cast) result self.old.trace self.new.trace }
         ensures seen { IsTried result }
     {
         self.refusal = Refusal::NoRoom;
         let Some((place, pieces)) = self.pieces_of_call(cast) else {
+            self.trace.add(Act::PushCast(cast), Seen::Refused);
             return Seen::Refused;
         };
         let Some(Load::Cast(job)) = self.load.take() else {
             unreachable!()
         };
-        match self.push_pieces(rt, cast, pieces, &place, job) {
+        match self.push_all(rt, cast, pieces, &place, job) {
             Ok(_) => Seen::Done,
             Err(job) => {
                 self.load = Some(Load::Cast(job));
@@ -123,32 +128,15 @@ impl<'a, J: JobKind> Guest<'a, J> {
     }
 
     // An empty place, and these pieces over it, which have shares of the call's ticket. None where there is no room.
+    #[tactic(auto, using(crate::proofs::Casts::are_shares))]
     fn pieces_of_call(&self, cast: Pieces) -> Option<(SharedJob<J>, Vec<Task<J>>)>
-        requires { cast.first + cast.workers < 2 ^ 64 }
-        ensures { IfSome result (λ m. (u : _) × (self.now.call ≡ Some u) × (m.1.items ≡ pieces_for u cast.first cast.workers)) }
+        requires row { cast.first + cast.workers < 2 ^ 64 }
+        requires called { CastsTo cast self.now.call }
+        ensures { IfSome result (λ m. AreTasksOf (Caller 0) self.now.trace cast m.1.items) }
     {
         let (alloc, call) = (self.alloc?, self.call.as_ref()?);
         let place = SharedJob::new(alloc).ok()?;
         let pieces = pieces_of(alloc, &place, call, cast.first, cast.workers).ok()?;
         Some((place, pieces))
-    }
-
-    // Puts the job into the place that these pieces share, and each piece last into its worker's list, in one step.
-    // Lends the job as it stands there.
-    fn push_pieces<'p, R: Wait>(
-        &self,
-        rt: &R,
-        cast: Pieces,
-        pieces: Vec<Task<J>>,
-        place: &'p SharedJob<J>,
-        job: J,
-    ) -> Result<&'p J, J>
-        requires { (u : _) × (self.now.call ≡ Some u) × (pieces.items ≡ pieces_for u cast.first cast.workers) }
-        ensures { MatchResult result (λ there. there.now ≡ job) (λ back. back ≡ job) }
-    {
-        match self.registry.casts().push_each(rt, pieces, place, job) {
-            Ok(there) => Ok(there),
-            Err((_, job)) => Err(job),
-        }
     }
 }

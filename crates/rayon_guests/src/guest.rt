@@ -16,7 +16,7 @@ ghost use Rattle.rayon_shared.specs.Marks.{GivesUnit, SetBy, has_book, scope_in,
 ghost use Rattle.rayon_guests.specs.Paths.{CallerGoes};
 ghost use Rattle.rayon_shared.specs.Pools.{shape_of};
 ghost use Rattle.rayon_guests.specs.Visiting.{At, Fits, Keeps, KeepsCall, Kept, Stands, guest_needs, guest_on, guest_stays};
-ghost use Rattle.rayon_guests.specs.Visits.{Does, GrownFor, HasCall, HasLatch, HasLoad, IsAnswer, IsLoadOf, IsTried, LentFor, Needs, NoneSuch, Packed, Raises, Takes, TakesOf, TellsBy, first_of, hand, if_done, opening, sent, task_in, ticket_of, unit_after};
+ghost use Rattle.rayon_guests.specs.Visits.{Does, GrownFor, HasCall, HasLatch, HasLoad, IsAnswer, IsLoadOf, IsNoCast, IsTried, LentFor, Needs, NoneSuch, Packed, Raises, Takes, TakesOf, TellsBy, first_of, hand, if_done, opening, sent, task_in, ticket_of, unit_after};
 ghost use Rattle.rayon_queues.specs.Deques.{visitor};
 
 use crate::load::Load;
@@ -138,7 +138,7 @@ impl<'a, J: JobKind> Perform for Guest<'a, J> {
             Act::SlotUndo { .. } => self.close_slot(rt),
             Act::LookInj(_) => yes(self.registry.injector().is_empty(&mut self.inlet)),
             Act::PushInj { job, .. } => self.push(rt, job),
-            Act::PushCast(cast) => self.push_cast(rt, cast),
+            Act::PushCast(cast) => return self.push_cast(rt, cast),
             Act::News { was_empty, .. } => Seen::Wakes(self.news(rt, was_empty)),
             Act::Lock { worker, .. } => {
                 self.registry.sleep().lock(rt, worker, false);
@@ -523,7 +523,8 @@ impl<'a, J: JobKind> Guest<'a, J> {
         load: Load<J>,
     ) -> Result<(Option<Done<J>>, Option<Done<J>>), (Refusal, Load<J>)>
         requires unit { self.old.holds ≡ false }
-        requires fits { Fits plan (Some load) self.old.call }
+        requires load { IsNoCast load }
+        requires fits { Fits self.old.shape.workers plan (Some load) self.old.call }
         ensures path { MatchResult result
             (λ found. CallerGoes (Stay (at.RaiseCount plan)) (record self.old { load = Some load }) (record self.new { first_done = found.0; done = found.1 }) Back)
             (λ e. CallerGoes (Stay (at.RaiseCount plan)) (record self.old { load = Some load }) (record self.new { load = Some e.1 }) (HandBack plan)) }

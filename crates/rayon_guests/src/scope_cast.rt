@@ -206,7 +206,8 @@ impl<'a, J: JobKind> Guest<'a, J> {
         job: J,
     ) -> Result<&'p J, J>
         requires count { IsCountOf ticket.now.scope cast.count }
-        requires numbered { (self.old.load ≡ None) × JustNumbered cast number self.old.trace }
+        requires idle { self.old.load ≡ None }
+        requires numbered { JustNumbered cast number self.old.trace }
         requires empty { ready.items ≡ [] }
         requires room { cast.workers ≤ vec_capacity ready }
         requires row { cast.first + cast.workers < 2 ^ 64 }

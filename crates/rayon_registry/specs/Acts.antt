@@ -1,6 +1,6 @@
 -- The acts that a worker made in a call, where runs of jobs lie between them.
 use Rattle.rayon_machine_places.specs.declared.place.Count.TheVariants.{OfPool}
-use Rattle.std.specs.Prelude.{ℕ, List, [], ◌∷◌, Bool, true, false, None, Some, Result, Ok, Err, ◌≡◌, ◌⊎◌}
+use Rattle.std.specs.Prelude.{ℕ, List, [], ◌∷◌, Bool, true, false, None, Some, MatchOption, Option, Result, Ok, Err, ◌≡◌, ◌⊎◌}
 use Rattle.rayon_words.specs.declared.refusal.CallError.{CallError}
 use Rattle.rayon_machine_places.specs.declared.place.Ending.{Ending}
 use Rattle.rayon_machine_places.specs.declared.place.Ending.TheVariants.{Fine, Fault}
@@ -32,6 +32,8 @@ use Rattle.rayon_shared.specs.Casts.{casting}
 use Rattle.rayon_performers.specs.Fifos.{feeding}
 use Rattle.rayon_performers.specs.Spawns.{closing}
 use Rattle.rayon_tasks.specs.Names.{IsRow}
+use Rattle.rayon_tasks.specs.Tasks.{TaskOf}
+use Rattle.rayon_tasks.specs.Tickets.{kind_in}
 
 -- what lay above a frame of a program: the move by which it began; where that beginning led, to the run of a job that was in
 -- no FIFO list, to that of the job that a token stands for, or nowhere, where a token's list was empty; how the run ended; and the
@@ -69,6 +71,11 @@ Closes h q t k e v w = HasRun k × elim (closing k t e) [ None ↦ w ≡ v | Som
 -- what a run of this job adds once it has begun: the entry of the run itself, and the acts of its end
 abbrev pub Ran : PoolShape → Party → ℕ → JobKind → Lay → Log → Type 0
 Ran h q t k r w = AddsRun r.lent r.over × Closes h q t k r.ended r.over w
+
+-- what a worker adds once a task has begun: the entry of its run, and the acts of its end. Where a token has brought no job,
+-- nothing
+abbrev pub RunOf : {X : Type 0} → PoolShape → Party → Option (TaskOf X) → Log → Log → Type 0
+RunOf h q x v w = MatchOption x (w ≡ v) (λ t. (e : Ending) × (o : Log) × AddsRun v o × Closes h q t.ticket.number (kind_in t.ticket) e o w)
 
 -- what follows where a beginning has led: a run, for which a token may have been spent; or nothing, where a token got no job
 abbrev pub Follows : PoolShape → Party → Move → Lay → Log → Type 0

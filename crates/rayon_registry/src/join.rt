@@ -7,15 +7,20 @@ ghost use Rattle.rayon_machine_places.specs.declared.place.Ending.TheVariants.{F
 ghost use Rattle.rayon_machine_places.specs.declared.place.Move.TheVariants.{Back, Stay};
 ghost use Rattle.rayon_machine_places.specs.declared.place.Party.TheVariants.{Worker};
 ghost use Rattle.rayon_machine_places.specs.declared.place.Place.TheVariants as at;
+ghost use Rattle.rayon_machine_places.specs.declared.place.Target.TheVariants.{Answer};
+ghost use Rattle.rayon_machine_places.specs.Places.{fresh};
+ghost use Rattle.rayon_performers.specs.Begins.{BringsJob};
 ghost use Rattle.rayon_performers.specs.Calls.{own_join};
 ghost use Rattle.rayon_shared.specs.Marks.{TakesUnit};
-ghost use Rattle.rayon_registry.specs.Acts.{CallMade, HandedBack, Joined, Lowered, Met, Offered, Worked, ended_so};
+ghost use Rattle.rayon_registry.specs.Acts.{CallMade, HandedBack, Joined, Lowered, Met, Offered, RunOf, Worked, ended_so};
 ghost use Rattle.rayon_registry.specs.Joins.{joins_by};
 ghost use Rattle.rayon_registry.specs.Answers.{joined, JoinAnswers};
 ghost use Rattle.rayon_registry.specs.Worker.{EndedCall, Kept, SameWorker};
+ghost use Rattle.rayon_shared.specs.AtHand.{HasTicket};
+ghost use Rattle.rayon_tasks.specs.Calls.{ticket_in};
 ghost use Rattle.rayon_tasks.specs.Tasks.{HasJob, OneJob};
 ghost use Rattle.rayon_tasks.specs.Tickets.{call_in};
-ghost use Rattle.std.specs.Prelude.{◌≡◌, ◌⊎◌, ℕ, ◌≤◌, ◌<◌, [], ◌∷◌, ◌++◌, ◌+◌, ◌-◌, ◌==◌, Bool, Result, Ok, Err, IfOk, IfErr, MatchResult, suc, true, false};
+ghost use Rattle.std.specs.Prelude.{◌≡◌, ◌⊎◌, ℕ, ◌≤◌, ◌<◌, [], ◌∷◌, ◌++◌, ◌+◌, ◌-◌, ◌==◌, if◌then◌else◌, Bool, Result, Ok, Err, IfOk, IfErr, MatchResult, Some, suc, true, false};
 
 use crate::answers::join_answer;
 use crate::context::{Context, FnContext};
@@ -164,18 +169,16 @@ impl<J: JobKind> WorkerThread<J> {
             job: name,
         };
         if first_faulted {
-            let target = Target::Answer {
-                call,
-                first: Some(Ending::Fault),
-            };
-            claimed(self.wait_for(rt, alloc, target, Some(held)), tag)
+            self.wait_for_answer(rt, alloc, call, Ending::Fault, Some(held), tag)
         } else {
             self.second_side(rt, alloc, call, held, tag)
         }
     }
 
-    // Takes the own second side back and runs it, or runs what lies above it until it is met, or waits for the result
-    // of the worker that stole it. Claims the result.
+    // Takes the own second side back and runs it, or goes on from what it has found in its place. Claims the result.
+    //
+    // A function that may wait clears all its locals that lie in memory where it begins, whichever way it takes. So each
+    // way but the first is a function of its own.
     #[inline(always)]
     #[tactic(auto, unfolding(crate::specs::Pushes::units_of, crate::specs::Pushes::shape_at, crate::specs::Pushes::index_of, crate::specs::Pushes::acts_of))]
     fn second_side<R: Waits<J>>(
@@ -194,7 +197,69 @@ impl<J: JobKind> WorkerThread<J> {
         ensures ended { EndedCall self.old self.new }
         ensures path { Worked self.old.shape (Worker 0 self.old.id.index) (Stay (at.JoinProbe call)) self.old.acts self.new.acts Back }
     {
-        let mut held = Some(held);
+        match self.bench.reclaim(rt, call, held) {
+            Ok((task, ended)) => self.run_second(rt, alloc, call, ended, task, tag),
+            Err(Reclaimed::Other { task: name, waits }) => {
+                let held = self.bench.take_call();
+                let begun = self.bench.begin_task(rt, name);
+                self.run_other(rt, alloc, call, held, begun, waits, tag)
+            }
+            Err(Reclaimed::Answered) => self.claim_found(tag),
+        }
+    }
+
+    // Runs the task that a join has found in place of its second side, which has begun. Then it waits for the worker
+    // that took that, or looks for it once more. Claims the result.
+    #[cold]
+    #[inline(never)]
+    fn run_other<R: Waits<J>>(
+        &mut self,
+        rt: &R,
+        alloc: Global,
+        call: OpenCall,
+        held: Option<Call<J>>,
+        begun: Option<Task<J>>,
+        waits: bool,
+        tag: &J::Tag,
+    ) -> Result<Result<J::Output, J::Fault>, Lost>
+        requires some { 0 < self.old.levels }
+        requires levels { self.old.levels ≤ R.levels rt.now }
+        requires ticket { HasTicket (ticket_in held) (Some call.number) }
+        requires job { BringsJob begun }
+        requires pool { call.pool ≡ 0 }
+        ensures ok { IfOk result (λ r. J.answers tag.now r) }
+        ensures ended { EndedCall self.old self.new }
+        ensures path { (w : Log) × RunOf self.old.shape (Worker 0 self.old.id.index) begun self.old.acts w × Worked self.old.shape (Worker 0 self.old.id.index) (Stay (if waits then at.ProbeWorking (fresh (Answer call (Some Fine))) else at.JoinProbe call)) w self.new.acts Back }
+    {
+        self.run_begun(rt, alloc, begun);
+        if waits {
+            self.wait_for_answer(rt, alloc, call, Ending::Fine, held, tag)
+        } else {
+            self.look_again(rt, alloc, call, held, tag)
+        }
+    }
+
+    // Looks for the own second side, and runs what lies above it, until that is met or taken. Claims the result.
+    #[cold]
+    #[inline(never)]
+    #[tactic(auto, unfolding(crate::specs::Pushes::units_of, crate::specs::Pushes::shape_at, crate::specs::Pushes::index_of, crate::specs::Pushes::acts_of))]
+    fn look_again<R: Waits<J>>(
+        &mut self,
+        rt: &R,
+        alloc: Global,
+        call: OpenCall,
+        held: Option<Call<J>>,
+        tag: &J::Tag,
+    ) -> Result<Result<J::Output, J::Fault>, Lost>
+        requires some { 0 < self.old.levels }
+        requires levels { self.old.levels ≤ R.levels rt.now }
+        requires ticket { HasTicket (ticket_in held) (Some call.number) }
+        requires pool { call.pool ≡ 0 }
+        ensures ok { IfOk result (λ r. J.answers tag.now r) }
+        ensures ended { EndedCall self.old self.new }
+        ensures path { Worked self.old.shape (Worker 0 self.old.id.index) (Stay (at.JoinProbe call)) self.old.acts self.new.acts Back }
+    {
+        let mut held = held;
         for _ in rt.forever() {
             let Some(waiting) = held else { unreachable!() };
             match self.bench.reclaim(rt, call, waiting) {
@@ -206,17 +271,50 @@ impl<J: JobKind> WorkerThread<J> {
                     let begun = self.bench.begin_task(rt, name);
                     self.run_begun(rt, alloc, begun);
                     if waits {
-                        let target = Target::Answer {
-                            call,
-                            first: Some(Ending::Fine),
-                        };
-                        return claimed(self.wait_for(rt, alloc, target, held), tag);
+                        return self.wait_for_answer(rt, alloc, call, Ending::Fine, held, tag);
                     }
                 }
-                Err(Reclaimed::Answered) => return claimed(self.bench.take_done(), tag),
+                Err(Reclaimed::Answered) => return self.claim_found(tag),
             }
         }
         unreachable!()
+    }
+
+    // Waits for the answer of the worker that took the second side, once the first one ended so. Claims the result.
+    #[cold]
+    #[inline(never)]
+    fn wait_for_answer<R: Waits<J>>(
+        &mut self,
+        rt: &R,
+        alloc: Global,
+        call: OpenCall,
+        first: Ending,
+        held: Option<Call<J>>,
+        tag: &J::Tag,
+    ) -> Result<Result<J::Output, J::Fault>, Lost>
+        requires some { 0 < self.old.levels }
+        requires levels { self.old.levels ≤ R.levels rt.now }
+        requires ticket { HasTicket (ticket_in held) (Some call.number) }
+        ensures ok { IfOk result (λ r. J.answers tag.now r) }
+        ensures ended { EndedCall self.old self.new }
+        ensures path { Worked self.old.shape (Worker 0 self.old.id.index) (Stay (at.ProbeWorking (fresh (Answer call (Some first))))) self.old.acts self.new.acts Back }
+    {
+        let target = Target::Answer {
+            call,
+            first: Some(first),
+        };
+        claimed(self.wait_for(rt, alloc, target, held), tag)
+    }
+
+    // Claims the result of the second side that was found.
+    #[cold]
+    #[inline(never)]
+    #[tactic(auto, unfolding(crate::specs::Pushes::pushed_by, crate::specs::Pushes::left_to, crate::specs::Pushes::takes_oldest, crate::specs::Pushes::units_of, crate::specs::Pushes::count_of, crate::specs::Pushes::shape_at, crate::specs::Pushes::index_of, crate::specs::Pushes::acts_of, crate::specs::Pushes::saw_set))]
+    fn claim_found(&mut self, tag: &J::Tag) -> Result<Result<J::Output, J::Fault>, Lost>
+        ensures ok { IfOk result (λ r. J.answers tag.now r) }
+        ensures same { self.new ≡ self.old }
+    {
+        claimed(self.bench.take_done(), tag)
     }
 
     // Runs the own second side, which was taken back, gives the unit of the terminate count back, and claims the

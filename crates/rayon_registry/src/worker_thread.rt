@@ -22,7 +22,7 @@ ghost use Rattle.rayon_jobs.specs.Endings.{ending_of as ended};
 ghost use Rattle.rayon_drive.specs.Traces.{AddsRun};
 ghost use Rattle.rayon_drive.specs.declared.trace.Log.{Log};
 ghost use Rattle.rayon_drive.specs.declared.trace.Log.TheVariants.{Empty};
-ghost use Rattle.rayon_registry.specs.Acts.{CallMade, Closes, HandedBack, Installed, Unlisted, Worked, wait_end};
+ghost use Rattle.rayon_registry.specs.Acts.{CallMade, Closes, HandedBack, Installed, RunOf, Unlisted, Worked, wait_end};
 ghost use Rattle.rayon_registry.specs.Answers.{InstallAnswers};
 ghost use Rattle.rayon_registry.specs.Worker.{AfterWait, Kept, SameWorker};
 ghost use Rattle.std.specs.Prelude.{◌≡◌, ◌⊎◌, ℕ, [], ◌∷◌, ◌++◌, ◌-◌, ◌<◌, ◌≤◌, ◌↔◌, IsTrue, List, Result, Ok, Err, IfOk, IfSome, IfNone, IfErr, MatchOption, MatchResult, Some, slice_get, None, true, false};
@@ -439,7 +439,7 @@ impl<J: JobKind> WorkerThread<J> {
         requires levels { self.old.levels ≤ R.levels rt.now }
         requires job { BringsJob begun }
         ensures same { SameWorker self.old self.new }
-        ensures path { MatchOption begun (self.new.acts ≡ self.old.acts) (λ t. (e : Ending) × (x : Log) × AddsRun self.old.acts x × Closes self.old.shape (Worker 0 self.old.id.index) t.ticket.number (kind_in t.ticket) e x self.new.acts) }
+        ensures path { RunOf self.old.shape (Worker 0 self.old.id.index) begun self.old.acts self.new.acts }
     {
         match begun {
             Some(task) => self.run_task(rt, alloc, task),

@@ -7,7 +7,7 @@ use Rattle.rayon_drive.specs.declared.trace.Log.{Log}
 use Rattle.rayon_tasks.specs.Calls.{ticket_in}
 use Rattle.rayon_shared.specs.AtHand.{HasTicket}
 use Rattle.rayon_registry.specs.Acts.{Worked}
-use Rattle.rayon_registry.proofs.worker_thread.WorkerThread.second_side.Given as goal
+use Rattle.rayon_registry.proofs.worker_thread.WorkerThread.look_again.Given as goal
 
 -- what follows goes on from the acts so far
 abbrev pub invariant-loop : goal.invariant-loop
